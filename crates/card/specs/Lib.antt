@@ -1,0 +1,4 @@
+pub mod Bottom
+pub mod Causes
+pub mod Ends
+pub mod Meaning

@@ -1,0 +1,22 @@
+-- What a wrong line is told: plain words for each kind of mistake.
+-- A reader must believe that the words fit the mistake.
+use mathlib.Core.List.{List}
+use Prim.Native.Nat.{ℕ}
+use lib.Chars.{codes}
+use Rattle.command.specs.declared.Wrong.{Wrong}
+use Rattle.command.specs.declared.Wrong.the-variants.{BadByte, UnknownCommand, UnknownCard, UnknownMachine}
+use Rattle.command.specs.declared.Wrong.the-variants.{MissingOperand, ExtraOperand, NotANumber, NumberTooLarge}
+use Rattle.command.specs.declared.Wrong.the-variants.{CardTooLarge, PastLastAddress, NoMemory}
+
+abbrev pub textOf : Wrong → List ℕ
+textOf BadByte = codes "a carriage return or a byte outside ASCII"
+textOf UnknownCommand = codes "no such command"
+textOf UnknownCard = codes "no such card: word or boot"
+textOf UnknownMachine = codes "no such machine: instruction"
+textOf MissingOperand = codes "an operand is missing"
+textOf ExtraOperand = codes "an operand too many"
+textOf NotANumber = codes "not a number"
+textOf NumberTooLarge = codes "the number is past 4294967295"
+textOf CardTooLarge = codes "the card is over 65536 words"
+textOf PastLastAddress = codes "a cell is past address 0xffffffff"
+textOf NoMemory = codes "no memory is left"

@@ -1,0 +1,112 @@
+// Lines, and what `read` answers.
+use crate::BottomDebug;
+use crate::CommandDebug;
+use crate::WrongDebug;
+use crate::read;
+use std::test::*;
+
+static LINES: [(&[u8], &str); 85] = [
+    (b"", "Ok(None)"),
+    (b" \t ", "Ok(None)"),
+    (b"# card word 4", "Ok(None)"),
+    (b"  # caf\xc3\xa9\r", "Ok(None)"),
+    (b"card word 0", "Ok(Some(Card(Word, 0)))"),
+    (b"card boot 65536", "Ok(Some(Card(Boot, 65536)))"),
+    (b"card word 0x10000", "Ok(Some(Card(Word, 65536)))"),
+    (b"words 0 1", "Ok(Some(Words(0, [1])))"),
+    (
+        b"words 3 0x20010000 4096 0",
+        "Ok(Some(Words(3, [536936448, 4096, 0])))",
+    ),
+    (b"power instruction 1", "Ok(Some(PowerInstruction(1)))"),
+    (b"power instruction 257", "Ok(Some(PowerInstruction(257)))"),
+    (b"instruction", "Ok(Some(Instruction(1)))"),
+    (b"instruction 0", "Ok(Some(Instruction(0)))"),
+    (b"instruction 5", "Ok(Some(Instruction(5)))"),
+    (b"reset", "Ok(Some(Reset))"),
+    (b"registers", "Ok(Some(Registers))"),
+    (b"flags", "Ok(Some(Flags))"),
+    (b"pc", "Ok(Some(Pc))"),
+    (b"fault", "Ok(Some(Fault))"),
+    (b"look 4096", "Ok(Some(Look(4096)))"),
+    (b"memory 8 2", "Ok(Some(Memory(8, 2)))"),
+    (b"memory 0 0", "Ok(Some(Memory(0, 0)))"),
+    (b"memory 0xffffffff 0", "Ok(Some(Memory(4294967295, 0)))"),
+    (b"memory 0xffffffff 1", "Ok(Some(Memory(4294967295, 1)))"),
+    (b"memory 1 0xffffffff", "Ok(Some(Memory(1, 4294967295)))"),
+    (b"place 4 42", "Ok(Some(Place(4, 42)))"),
+    (b"\tplace\t4  42\t", "Ok(Some(Place(4, 42)))"),
+    (b"pc# caf\xc3\xa9", "Ok(Some(Pc))"),
+    (b"look 7#8", "Ok(Some(Look(7)))"),
+    (b"look 4294967295", "Ok(Some(Look(4294967295)))"),
+    (b"look 0xFFFFFFFF", "Ok(Some(Look(4294967295)))"),
+    (b"look 0xffFFffFF # a comment", "Ok(Some(Look(4294967295)))"),
+    (b"pc # \xff", "Ok(Some(Pc))"),
+    (b"look 0xabcdef", "Ok(Some(Look(11259375)))"),
+    (b"look 0x00000000000000000000000000001", "Ok(Some(Look(1)))"),
+    (
+        b"look 00000000000000000000000000000001",
+        "Ok(Some(Look(1)))",
+    ),
+    (b"look 09", "Ok(Some(Look(9)))"),
+    (b"look 0", "Ok(Some(Look(0)))"),
+    (b"pc\t# \r", "Ok(Some(Pc))"),
+    (b"pc\r", "Err(BadByte)"),
+    (b"pc \xc3\xa9", "Err(BadByte)"),
+    (b"pc \xff", "Err(BadByte)"),
+    (b"\r# comment", "Err(BadByte)"),
+    (b"nonsense \x80 # comment", "Err(BadByte)"),
+    (b"nonsense", "Err(UnknownCommand)"),
+    (b"PC", "Err(UnknownCommand)"),
+    (b"pcs", "Err(UnknownCommand)"),
+    (b"p c", "Err(UnknownCommand)"),
+    (b"42", "Err(UnknownCommand)"),
+    (b"clock 1", "Err(UnknownCommand)"),
+    (b"pc\x0b", "Err(UnknownCommand)"),
+    (b"card", "Err(MissingOperand)"),
+    (b"card word", "Err(MissingOperand)"),
+    (b"card words 4", "Err(UnknownCard)"),
+    (b"card 4", "Err(UnknownCard)"),
+    (b"card word x 4", "Err(NotANumber)"),
+    (b"card word 65537", "Err(CardTooLarge)"),
+    (b"card word 65537 1", "Err(CardTooLarge)"),
+    (b"card boot 4294967296", "Err(NumberTooLarge)"),
+    (b"card boot 4 4", "Err(ExtraOperand)"),
+    (b"words", "Err(MissingOperand)"),
+    (b"words 0", "Err(MissingOperand)"),
+    (b"words 0 1 x 4294967296", "Err(NotANumber)"),
+    (b"words 0 1 4294967296 x", "Err(NumberTooLarge)"),
+    (b"power", "Err(MissingOperand)"),
+    (b"power instruction", "Err(MissingOperand)"),
+    (b"power clock 1", "Err(UnknownMachine)"),
+    (b"power instruction 1 2", "Err(ExtraOperand)"),
+    (b"instruction 1 2", "Err(ExtraOperand)"),
+    (b"instruction x", "Err(NotANumber)"),
+    (b"reset 1", "Err(ExtraOperand)"),
+    (b"look", "Err(MissingOperand)"),
+    (b"look 1 2", "Err(ExtraOperand)"),
+    (b"look -1", "Err(NotANumber)"),
+    (b"look +1", "Err(NotANumber)"),
+    (b"look 0x", "Err(NotANumber)"),
+    (b"look 0xg", "Err(NotANumber)"),
+    (b"look 0X1", "Err(NotANumber)"),
+    (b"look 1f", "Err(NotANumber)"),
+    (b"look 4294967296", "Err(NumberTooLarge)"),
+    (b"look 0x100000000", "Err(NumberTooLarge)"),
+    (b"look 99999999999999999999999999999999x", "Err(NotANumber)"),
+    (
+        b"look 340282366920938463463374607431768211457",
+        "Err(NumberTooLarge)",
+    ),
+    (b"memory 0xffffffff 2", "Err(PastLastAddress)"),
+    (b"place 4", "Err(MissingOperand)"),
+];
+
+#[test]
+fn lines_are_read(rt: LibcRuntime) -> Result<(), Fail> {
+    for (line, expected) in &LINES {
+        let found = format!(rt.alloc(), "{:?}", read(rt.alloc(), *line))?;
+        check_eq(found.as_str(), *expected)?;
+    }
+    Ok(())
+}

@@ -1,0 +1,5 @@
+pub mod Answer
+pub mod Buffer
+pub mod Line
+pub mod Numeral
+pub mod Reading
