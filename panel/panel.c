@@ -4,7 +4,6 @@
  * Each is a number from 0 to 4294967295, decimal or hexadecimal after 0x. A fault that has no line is refused: the
  * number of the refusal is printed, and the status is 1. Anything else on the command line gives status 2.
  */
-#include <ctype.h>
 #include <errno.h>
 #include <inttypes.h>
 #include <stdio.h>
@@ -19,15 +18,15 @@ enum { AXIS, STAGE, INSTRUCTION, ACCESS, CAUSE, ORIGIN, LAYER, FIELDS };
 static int read_number(const char *text, uint32_t *number) {
     int hexadecimal = text[0] == '0' && (text[1] == 'x' || text[1] == 'X');
     const char *digits = hexadecimal ? text + 2 : text;
-    char *end;
+    const char *allowed = hexadecimal ? "0123456789abcdefABCDEF" : "0123456789";
     unsigned long long value;
 
-    if (!isxdigit((unsigned char)digits[0])) {
+    if (digits[0] == '\0' || digits[strspn(digits, allowed)] != '\0') {
         return 0;
     }
     errno = 0;
-    value = strtoull(digits, &end, hexadecimal ? 16 : 10);
-    if (errno != 0 || *end != '\0' || value > UINT32_MAX) {
+    value = strtoull(digits, NULL, hexadecimal ? 16 : 10);
+    if (errno != 0 || value > UINT32_MAX) {
         return 0;
     }
     *number = (uint32_t)value;

@@ -34,6 +34,8 @@ panel() {
     panel 1 3 -1 0x1000 1 0x1000 0
     panel 1 3 0 0x 1 0x1000 0
     panel 1 3 0 12ab 1 0x1000 0
+    panel 1 3 0 0x0x10 1 0x1000 0
+    panel 1 3 0 99999999999999999999 1 0x1000 0
 } > "$work/printed.txt"
 
 diff -u "$root/panel/expected.txt" "$work/printed.txt"

@@ -1,10 +1,9 @@
 // A scenario: a card, then an axis on it, until the next card.
 use super::cells;
 use super::cells::Inspection;
-use super::input::Lines;
+use super::desk::Desk;
+use super::desk::Misplaced;
 use super::machine;
-use super::report::Lack;
-use super::report::Report;
 use card::BootCard;
 use card::BootCardCard;
 use card::Card;
@@ -17,36 +16,25 @@ use std::io;
 // A new card, by its kind and how many words it has.
 type NewCard = (Bottom, u32);
 
-// The next line that is a command, with its number; lines that are none are reported.
-fn next_command(
-    rt: &LibcRuntime,
-    lines: &mut Lines,
-    report: &mut Report,
-) -> io::Result<Option<(u64, Command)>> {
-    for _ in 0..lines.left() {
-        let Some(line) = lines.next() else {
-            return Ok(None);
+// Carries out the whole input, a scenario at a time. Each begins at a line of its own.
+pub fn play(desk: &mut Desk) -> io::Result<()> {
+    let mut next = before_a_card(desk)?;
+    for _ in 0..desk.lines_left() {
+        let Some((bottom, count)) = next else {
+            break;
         };
-        match command::read(rt.alloc(), line.text) {
-            Ok(Some(command)) => return Ok(Some((line.number, command))),
-            Ok(None) => {}
-            Err(wrong) => report.unread(line.number, wrong)?,
-        }
+        next = on_card(desk, bottom, count)?;
     }
-    Ok(None)
+    Ok(())
 }
 
 // Up to the first card.
-pub fn before_a_card(
-    rt: &LibcRuntime,
-    lines: &mut Lines,
-    report: &mut Report,
-) -> io::Result<Option<NewCard>> {
-    for _ in 0..lines.left() {
-        match next_command(rt, lines, report)? {
+fn before_a_card(desk: &mut Desk) -> io::Result<Option<NewCard>> {
+    for _ in 0..desk.lines_left() {
+        match desk.next_command()? {
             None => return Ok(None),
-            Some((_, Command::Card(bottom, count))) => return Ok(Some((bottom, count))),
-            Some((number, _)) => report.lacks(number, Lack::Card)?,
+            Some(Command::Card(bottom, count)) => return Ok(Some((bottom, count))),
+            Some(_) => desk.misplaced(Misplaced::NoCard)?,
         }
     }
     Ok(None)
@@ -67,24 +55,18 @@ enum Powered {
 }
 
 // Up to the next card, which is the answer.
-pub fn on_card(
-    rt: &LibcRuntime,
-    lines: &mut Lines,
-    report: &mut Report,
-    bottom: Bottom,
-    count: u32,
-) -> io::Result<Option<NewCard>> {
-    let mut words = vec![in rt.alloc(); 0u32; count as usize]?;
-    println!(rt, "card ok")?;
-    for _ in 0..lines.left() {
-        let axis = match set_up(rt, lines, report, bottom, &mut words)? {
+fn on_card(desk: &mut Desk, bottom: Bottom, count: u32) -> io::Result<Option<NewCard>> {
+    let mut words = vec![in desk.rt.alloc(); 0u32; count as usize]?;
+    println!(desk.rt, "card ok")?;
+    for _ in 0..desk.lines_left() {
+        let axis = match set_up(desk, bottom, &mut words)? {
             SetUp::Power(axis) => axis,
             SetUp::Card(next) => return Ok(Some(next)),
             SetUp::End => return Ok(None),
         };
         let powered = match bottom {
-            Bottom::Word => on_axis(rt, lines, report, &mut WordCard::new(&mut words), axis)?,
-            Bottom::Boot => on_axis(rt, lines, report, &mut BootCard::new(&words), axis)?,
+            Bottom::Word => on_axis(desk, &mut WordCard::new(&mut words), axis)?,
+            Bottom::Boot => on_axis(desk, &mut BootCard::new(&words), axis)?,
         };
         match powered {
             Powered::Refused => {}
@@ -96,99 +78,80 @@ pub fn on_card(
 }
 
 // Words into the card's memory, and questions about its cells, up to a power-up.
-fn set_up(
-    rt: &LibcRuntime,
-    lines: &mut Lines,
-    report: &mut Report,
-    bottom: Bottom,
-    words: &mut Vec<u32>,
-) -> io::Result<SetUp> {
-    for _ in 0..lines.left() {
-        let Some((number, command)) = next_command(rt, lines, report)? else {
+fn set_up(desk: &mut Desk, bottom: Bottom, words: &mut Vec<u32>) -> io::Result<SetUp> {
+    for _ in 0..desk.lines_left() {
+        let Some(command) = desk.next_command()? else {
             return Ok(SetUp::End);
         };
         match command {
             Command::Card(bottom, count) => return Ok(SetUp::Card((bottom, count))),
             Command::PowerInstruction(axis) => return Ok(SetUp::Power(axis)),
-            Command::Words(from, list) => {
-                if store_words(words, from, &list) {
-                    println!(rt, "words ok")?;
-                } else {
-                    report.lacks(number, Lack::WordsPastMemory)?;
-                }
+            Command::Words(from, list) => store_words(desk, words, from, &list)?,
+            Command::Look(at) => cells::inspect_words(
+                desk.rt,
+                bottom,
+                words,
+                Inspection::Look(at),
+            )?,
+            Command::Memory(from, count) => {
+                cells::inspect_words(desk.rt, bottom, words, Inspection::Memory(from, count))?
             }
-            Command::Look(address) => cells::inspect_words(
-                rt,
+            Command::Place(at, word) => cells::inspect_words(
+                desk.rt,
                 bottom,
                 words,
-                Inspection::Look(address),
+                Inspection::Place(at, word),
             )?,
-            Command::Memory(from, count) => cells::inspect_words(
-                rt,
-                bottom,
-                words,
-                Inspection::Memory(from, count),
-            )?,
-            Command::Place(address, word) => cells::inspect_words(
-                rt,
-                bottom,
-                words,
-                Inspection::Place(address, word),
-            )?,
-            _ => report.lacks(number, Lack::Axis)?,
+            _ => desk.misplaced(Misplaced::NoAxis)?,
         }
     }
     Ok(SetUp::End)
 }
 
-// Puts words into the memory from an index on; false, with nothing changed, where they pass its end.
-fn store_words(memory: &mut Vec<u32>, from: u32, list: &Vec<u32>) -> bool {
+// Puts words into the memory from an index on, unless they pass its end.
+fn store_words(
+    desk: &mut Desk,
+    memory: &mut Vec<u32>,
+    from: u32,
+    list: &Vec<u32>,
+) -> io::Result<()> {
     let from = from as usize;
     if from > memory.len() || list.len() > memory.len() - from {
-        return false;
+        return desk.misplaced(Misplaced::WordsPastMemory);
     }
     for (i, word) in list.iter().enumerate() {
         if let Some(slot) = memory.get_mut(from + i) {
             *slot = *word;
         }
     }
-    true
+    println!(desk.rt, "words ok")
 }
 
 // Powers up, and carries out the commands of the axis up to the next card.
-fn on_axis<C: Card>(
-    rt: &LibcRuntime,
-    lines: &mut Lines,
-    report: &mut Report,
-    card: &mut C,
-    axis: u32,
-) -> io::Result<Powered> {
+fn on_axis<C: Card>(desk: &mut Desk, card: &mut C, axis: u32) -> io::Result<Powered> {
+    let rt = desk.rt;
     let Some(mut axis) = machine::power(rt, card, axis)? else {
         return Ok(Powered::Refused);
     };
-    for _ in 0..lines.left() {
-        let Some((number, command)) = next_command(rt, lines, report)? else {
+    for _ in 0..desk.lines_left() {
+        let Some(command) = desk.next_command()? else {
             return Ok(Powered::End);
         };
         match command {
             Command::Card(bottom, count) => return Ok(Powered::Card((bottom, count))),
-            Command::Words(_, _) => report.lacks(number, Lack::WordsAfterPower)?,
+            Command::Words(_, _) => desk.misplaced(Misplaced::WordsAfterPower)?,
             Command::PowerInstruction(number) => {
                 if let Some(next) = machine::power(rt, card, number)? {
                     axis = next;
                 }
             }
-            Command::Look(address) => cells::inspect(rt, card, Inspection::Look(address))?,
+            Command::Look(at) => cells::inspect(rt, card, Inspection::Look(at))?,
             Command::Memory(from, count) => cells::inspect(
                 rt,
                 card,
                 Inspection::Memory(from, count),
             )?,
-            Command::Place(address, word) => cells::inspect(
-                rt,
-                card,
-                Inspection::Place(address, word),
-            )?,
+            Command::Place(at, word) => cells::inspect(rt, card, Inspection::Place(at, word))?,
             Command::Instruction(count) => machine::run(rt, &mut axis, card, count)?,
             Command::Reset => machine::reset(rt, &mut axis)?,
             Command::Registers => machine::registers(rt, &axis)?,

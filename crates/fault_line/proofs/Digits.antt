@@ -74,7 +74,7 @@ value c = cond (ltb c 58) (c - 48) (c - 87)
 value-digit : (d : ℕ) → d < 16 → value (digit d) ≡ d
 value-digit d h = sym (getD-map value (codes "0123456789abcdef") d 0 0 h) ∙ getD-counting 0 16 d 0 h ∙ zero-add d
 
-digit-tells : (c d : ℕ) → c < 16 → d < 16 → digit c ≡ digit d → c ≡ d
+pub digit-tells : (c d : ℕ) → c < 16 → d < 16 → digit c ≡ digit d → c ≡ d
 digit-tells c d h l e = sym (value-digit c h) ∙ ap value e ∙ value-digit d l
 
 pub digits-tell : (b k m n : ℕ) → 2 ≤ b → b ≤ 16 → m < b ^ k → n < b ^ k → digits b k m ≡ digits b k n → m ≡ n
@@ -82,7 +82,8 @@ unfolding digits
 digits-tell b zero m n p q im in′ e = omega (arith, pow-zero b)
 digits-tell b (suc k) m n p q im in′ e =
     let s = same-from-push (digits b k (m / b)) (digits b k (n / b)) (digit (m % b)) (digit (n % b)) e in
-    let below : (i : ℕ) → i < b ^ suc k → i / b < b ^ k = λ i h. div-below i b (b ^ k) (omega arith) (rw pow-suc at h) in
+    let below : (i : ℕ) → i < b ^ suc k → i / b < b ^ k =
+    λ i h. div-below i b (b ^ k) (omega arith) (rw pow-suc at h) in
     let high : m / b ≡ n / b = digits-tell b k (m / b) (n / b) p q (below m im) (below n in′) (s .0) in
     let low : m % b ≡ n % b =
     digit-tells (m % b) (n % b) (omega (arith, mod-below m b)) (omega (arith, mod-below n b)) (s .1) in

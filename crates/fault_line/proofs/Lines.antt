@@ -1,12 +1,12 @@
 -- No two faults share a line: each field can be told from what stands at the front of a text.
 -- Assumes nothing.
-use Prim.Native.Nat.{ℕ, zero, suc, _+_, _-_, _*_, _/_, _%_, _^_, _<_, _≤_}
+use Prim.Native.Nat.{ℕ, zero, suc, _^_, _<_, _≤_}
 use mathlib.Core.Path.{_≡_, refl, sym, ap, _∙_}
 use mathlib.Core.Bool.{cond}
 use mathlib.Core.List.{List, [], _∷_, _++_}
 use lib.Chars.{codes}
 use lib.Dec.{eqb}
-use lib.ListN.{length, take, drop}
+use lib.ListN.{take, drop}
 use native.Mathlib.Omega.{arith}
 use Rattle.std.specs.declared.option.Option.{Option}
 use Rattle.std.specs.declared.option.Option.the-variants.{Some, None}
@@ -28,8 +28,9 @@ number-tells mark b k p q m n xs ys im in′ e =
     let d = append-cancel-left mark (digits b k m ++ xs) (digits b k n ++ ys)
     (sym (append-assoc mark (digits b k m) xs) ∙ e ∙ append-assoc mark (digits b k n) ys) in
     let l = length-digits b k m in
-    let r = length-digits b k n in (
-      digits-tell b k m n p q im in′ (sym (take-at (digits b k m) xs k l) ∙ ap (take k) d ∙ take-at (digits b k n) ys k r),
+    let r = length-digits b k n in
+    let s = sym (take-at (digits b k m) xs k l) ∙ ap (take k) d ∙ take-at (digits b k n) ys k r in (
+      digits-tell b k m n p q im in′ s,
       sym (drop-at (digits b k m) xs k l) ∙ ap (drop k) d ∙ drop-at (digits b k n) ys k r,
     )
 
@@ -145,16 +146,16 @@ module _ (f : Fields) (v : InRange f) {line : List ℕ} (e : line ≡ lineOf f) 
                 pub told-all : (fault n1 n2 n3 n4 n5 n6 n7 ≡ f) × (r7 ≡ after-layer f)
                 told-all = (
                   λ i.
-                      fault (told-axis .0 i) (told-stage .0 i) (told-instruction .0 i) (told-access .0 i) (told-cause .0 i)
-                      (told-origin .0 i) (told-layer .0 i),
+                      fault (told-axis .0 i) (told-stage .0 i) (told-instruction .0 i) (told-access .0 i)
+                      (told-cause .0 i) (told-origin .0 i) (told-layer .0 i),
                   told-layer .1,
                 )
 
 pub one-fault : One-fault
 one-fault f g v w e =
     let t : (f ≡ g) × (after-layer f ≡ after-layer g) =
-    told-all g w e (omega (arith, v .axis-in .1), refl) (v .stage-in, refl) (v .instruction-in, refl) (v .access-in, refl)
-    (v .cause-in, refl) (v .origin-in, refl) (omega (arith, v .layer-in), refl) in
+    told-all g w e (omega (arith, v .axis-in .1), refl) (v .stage-in, refl) (v .instruction-in, refl)
+    (v .access-in, refl) (v .cause-in, refl) (v .origin-in, refl) (omega (arith, v .layer-in), refl) in
     t .0
 
 -- the fields read one after the other, up to the end, make the line of a fault

@@ -11,16 +11,23 @@ use super::Fields;
 use super::cause_names;
 use super::stage_names;
 
-// The number that a character is the digit of.
+// The number that a character is the hexadecimal digit of.
+fn hexadecimal(character: u8) -> Option<u32>
+    ensures { λ r. ⌜ Digit-read 16 character r ⌝ }
+{
+    match character {
+        b'0'..=b'9' => Some(u32::from(character - b'0')),
+        b'a'..=b'f' => Some(u32::from(character - b'a') + 10),
+        _ => None,
+    }
+}
+
+// The same in a base.
 fn digit(character: u8, base: u32) -> Option<u32>
     requires { ⌜ base ≤ 16 ⌝ }
     ensures { λ r. ⌜ Digit-read base character r ⌝ }
 {
-    let d = match character {
-        b'0'..=b'9' => u32::from(character - b'0'),
-        b'a'..=b'f' => u32::from(character - b'a') + 10,
-        _ => return None,
-    };
+    let d = hexadecimal(character)?;
     if d < base { Some(d) } else { None }
 }
 

@@ -3,4 +3,5 @@ use Rattle.fault_line.proofs.read.after.Needs as need
 
 pub returns : need.returns
 returns c =
-    strip-prefix-is (c .args .text .now) (c .args .mark .now) (c .strip-prefix .result) (c .strip-prefix .ensures .cases)
+    let r = c .strip-prefix .result in
+    strip-prefix-is (c .args .text .now) (c .args .mark .now) r (c .strip-prefix .ensures .cases)

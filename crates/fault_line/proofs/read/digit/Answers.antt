@@ -1,7 +1,12 @@
-use borrow.Author.Needs.{needs}
+use mathlib.Core.Path.{sym, _∙_}
+use native.Mathlib.Omega.{arith}
+use Rattle.fault_line.proofs.Digits.{digit-tells}
 use Rattle.fault_line.proofs.read.digit.Needs as need
-use Rattle.fault_line.proofs.read.digit.Needs.{in-48-to-57, in-97-to-102}
 
-pub returns-then-d-base : need.returns-then-d-base
-returns-then-d-base c =
-    elim (c .if-character-lt58 .came) [ in-48-to-57 w ↦ search needs | in-97-to-102 w ↦ search needs ]
+pub returns-in-Break-d : need.returns-in-Break-d
+returns-in-Break-d c = rw (c .from-residual .ensures) (λ e l h. c .in-Break-d .ensures tt e (omega arith) h)
+
+pub returns-else-d-base : need.returns-else-d-base
+returns-else-d-base c = λ e l h.
+    let read = c .in-Continue-d .ensures tt in
+    omega (arith, digit-tells (c .in-Continue-d .d) e (read .0) (omega arith) (sym (read .1) ∙ h))

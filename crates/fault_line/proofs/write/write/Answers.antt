@@ -1,7 +1,6 @@
 use borrow.Author.Needs.{needs}
-use Prim.Native.Nat.{ℕ}
 use mathlib.Core.Path.{refl, ap, _∙_}
-use mathlib.Core.List.{List, [], _∷_}
+use mathlib.Core.List.{[]}
 use lib.Chars.{codes}
 use Rattle.fault_line.specs.Buffer.{Grows}
 use Rattle.fault_line.specs.Line.{lineOf, name}
