@@ -3,8 +3,6 @@ pub mod boot_card;
 mod bottom;
 pub mod card;
 pub mod cell;
-#[cfg(test)]
-mod tests;
 pub mod transfer;
 pub mod word_card;
 

@@ -15,8 +15,6 @@ mod keyword;
 mod line;
 mod number;
 mod operands;
-#[cfg(test)]
-mod tests;
 
 // The card at the bottom of a stack.
 #[derive(Clone, Copy, Debug)]

@@ -5,8 +5,6 @@ ghost use Rattle.std.specs.Orderings.{Decides};
 ghost use Rattle.fault_line.specs.Line.{Counts, InRange, causes, stages, texts};
 
 mod read;
-#[cfg(test)]
-mod tests;
 mod write;
 
 pub use read::read_line;

@@ -22,6 +22,3 @@ pub use opcodes::Class;
 pub use opcodes::Entry;
 pub use opcodes::Form;
 pub use opcodes::decode;
-
-#[cfg(test)]
-mod tests;

@@ -2,7 +2,7 @@
 // zero. Its transfers wait by their address, up to three times.
 ghost use mathlib.Core.Path.{_≡_};
 ghost use Prim.Native.Nat.{_≤_};
-ghost use Rattle.machine_tests.specs.Edge.{edgeMeaning, patient};
+ghost use Rattle.model_tests.specs.Edge.{edgeMeaning, patient};
 use card::Card;
 use card::Cell;
 use card::Cells;

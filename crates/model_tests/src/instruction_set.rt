@@ -1,4 +1,11 @@
-use super::*;
+use isa::Arithmetic;
+use isa::Class;
+use isa::Flags;
+use isa::Form;
+use isa::Instruction;
+use isa::Logical;
+use isa::Mask;
+use isa::decode;
 use std::test::*;
 
 const MIN: u32 = 0x8000_0000;

@@ -1,8 +1,8 @@
 // Lines, and what `read` answers.
-use crate::BottomDebug;
-use crate::CommandDebug;
-use crate::WrongDebug;
-use crate::read;
+use command::BottomDebug;
+use command::CommandDebug;
+use command::WrongDebug;
+use command::read;
 use std::test::*;
 
 static LINES: [(&[u8], &str); 85] = [

@@ -1,18 +1,18 @@
 // The two bottom cards at their ends, and calls out of order.
-use super::BootCard;
-use super::BootCardCard;
-use super::BootCardCells;
-use super::Card;
-use super::Cause;
-use super::Cell;
-use super::Cells;
-use super::Direction;
-use super::End;
-use super::Polled;
-use super::Request;
-use super::WordCard;
-use super::WordCardCard;
-use super::WordCardCells;
+use card::BootCard;
+use card::BootCardCard;
+use card::BootCardCells;
+use card::Card;
+use card::Cause;
+use card::Cell;
+use card::Cells;
+use card::Direction;
+use card::End;
+use card::Polled;
+use card::Request;
+use card::WordCard;
+use card::WordCardCard;
+use card::WordCardCells;
 use refusal::Refusal;
 use std::test::*;
 

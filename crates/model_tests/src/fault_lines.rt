@@ -1,9 +1,9 @@
 // Lines as a panel sees them, refusals, and texts that are nearly lines.
-use super::Fields;
-use super::FieldsDebug;
-use super::FieldsPartialEq;
-use super::dp32_fault_line;
-use super::read_line;
+use fault_line::Fields;
+use fault_line::FieldsDebug;
+use fault_line::FieldsPartialEq;
+use fault_line::dp32_fault_line;
+use fault_line::read_line;
 use std::test::*;
 
 fn write(f: [u32; 7], line: &mut [u8]) -> i32 {
