@@ -1,32 +1,17 @@
-// Looking at the cells of a card, and placing a word.
-use card::BootCard;
-use card::BootCardCells;
+// Looking at the cells of a card, placing a word, and loading an image.
 use card::Cell;
 use card::Cells;
-use card::WordCard;
-use card::WordCardCells;
-use command::Bottom;
+use image::Image;
 use std::io;
 
 // What is asked of the cells of a card.
-#[derive(Clone, Copy)]
+#[derive(Drop)]
 pub enum Inspection {
     Look(u32),
     Memory(u32, u32),
     Place(u32, u32),
-}
-
-// Over the card's memory, before it has an axis.
-pub fn inspect_words(
-    rt: &LibcRuntime,
-    bottom: Bottom,
-    words: &mut Vec<u32>,
-    inspection: Inspection,
-) -> io::Result<()> {
-    match bottom {
-        Bottom::Word => inspect(rt, &mut WordCard::new(words), inspection),
-        Bottom::Boot => inspect(rt, &mut BootCard::new(words), inspection),
-    }
+    // an image's bytes
+    Load(Vec<u8>),
 }
 
 pub fn inspect<C: Cells>(rt: &LibcRuntime, card: &mut C, inspection: Inspection) -> io::Result<()> {
@@ -34,6 +19,7 @@ pub fn inspect<C: Cells>(rt: &LibcRuntime, card: &mut C, inspection: Inspection)
         Inspection::Look(address) => look(rt, card, address),
         Inspection::Memory(from, count) => memory(rt, card, from, count),
         Inspection::Place(address, word) => place(rt, card, address, word),
+        Inspection::Load(bytes) => load(rt, card, &bytes),
     }
 }
 
@@ -72,6 +58,23 @@ fn place<C: Cells>(rt: &LibcRuntime, card: &mut C, address: u32, word: u32) -> i
         Err(refusal) => {
             let number = refusal.number();
             println!(rt, "place refused {number}")
+        }
+    }
+}
+
+// Checks the bytes as an image and places it.
+fn load<C: Cells>(rt: &LibcRuntime, card: &mut C, bytes: &[u8]) -> io::Result<()> {
+    let mut image = Image::empty();
+    if let Err(refusal) = image.check(bytes) {
+        let number = refusal.number();
+        return println!(rt, "load refused {number}");
+    }
+    match image.place(card) {
+        Ok(()) => println!(rt, "load ok"),
+        Err(refused) => {
+            let number = refused.refusal().number();
+            let address = refused.address;
+            println!(rt, "load refused {number} at {address:08x}")
         }
     }
 }

@@ -12,6 +12,9 @@ pub enum Misplaced {
     NoAxis,
     WordsPastMemory,
     WordsAfterPower,
+    LayerAfterPower,
+    FourthLayer,
+    Unreadable,
 }
 
 impl Misplaced {
@@ -21,6 +24,9 @@ impl Misplaced {
             Misplaced::NoAxis => "no axis yet",
             Misplaced::WordsPastMemory => "the words pass the card's memory",
             Misplaced::WordsAfterPower => "words come before power-up",
+            Misplaced::LayerAfterPower => "layers come before power-up",
+            Misplaced::FourthLayer => "the card has three layers already",
+            Misplaced::Unreadable => "the file cannot be read",
         }
     }
 }

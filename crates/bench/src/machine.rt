@@ -111,16 +111,13 @@ pub fn fault(rt: &LibcRuntime, machine: &Machine) -> io::Result<()> {
     print_line(rt, &line, length)
 }
 
-// The text of so many bytes, which end with their line end; a refusal of the line by its number.
+// The line's text. Its fields are right by the fault's type and its buffer is long enough, so none is ever refused.
 fn print_line(rt: &LibcRuntime, line: &[u8], length: i32) -> io::Result<()> {
-    let Ok(length) = usize::try_from(length) else {
-        return println!(rt, "fault refused {}", length.unsigned_abs());
-    };
-    let Some(text) = line.get(0..length) else {
-        return println!(rt, "fault refused");
-    };
-    match std::str::from_utf8(text) {
-        Ok(text) => print!(rt, "{text}"),
-        Err(_) => println!(rt, "fault refused"),
+    if let Ok(length) = usize::try_from(length)
+        && let Some(bytes) = line.get(0..length)
+        && let Ok(text) = std::str::from_utf8(bytes)
+    {
+        return print!(rt, "{text}");
     }
+    println!(rt, "fault has no line")
 }

@@ -9,6 +9,7 @@ mod desk;
 mod input;
 mod machine;
 mod scenario;
+mod stack;
 
 fn main(rt: LibcRuntime) -> Result<(), AnyError> {
     let Some(input) = Input::gather(&rt)? else {

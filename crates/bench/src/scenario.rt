@@ -4,17 +4,17 @@ use super::cells::Inspection;
 use super::desk::Desk;
 use super::desk::Misplaced;
 use super::machine;
-use card::BootCard;
-use card::BootCardCard;
+use super::stack;
+use super::stack::Task;
 use card::Card;
-use card::WordCard;
-use card::WordCardCard;
 use command::Bottom;
 use command::Command;
+use layer::Kind;
+use std::fs;
 use std::io;
 
 // A new card, by its kind and how many words it has.
-type NewCard = (Bottom, u32);
+pub type NewCard = (Bottom, u32);
 
 // Carries out the whole input, a scenario at a time. Each begins at a line of its own.
 pub fn play(desk: &mut Desk) -> io::Result<()> {
@@ -47,29 +47,31 @@ enum SetUp {
     End,
 }
 
-// What ends the part with an axis.
-enum Powered {
-    Refused,
+// What ends the part with an axis, unless there is none after all.
+#[derive(Drop)]
+pub enum Powered {
+    NoAxis,
     Card(NewCard),
     End,
 }
 
 // Up to the next card, which is the answer.
 fn on_card(desk: &mut Desk, bottom: Bottom, count: u32) -> io::Result<Option<NewCard>> {
-    let mut words = vec![in desk.rt.alloc(); 0u32; count as usize]?;
+    let heap = desk.rt.alloc();
+    let mut memory = Memory {
+        bottom,
+        words: vec![in heap; 0u32; count as usize]?,
+        layers: Vec::new(heap),
+    };
     println!(desk.rt, "card ok")?;
     for _ in 0..desk.lines_left() {
-        let axis = match set_up(desk, bottom, &mut words)? {
+        let axis = match set_up(desk, &mut memory)? {
             SetUp::Power(axis) => axis,
             SetUp::Card(next) => return Ok(Some(next)),
             SetUp::End => return Ok(None),
         };
-        let powered = match bottom {
-            Bottom::Word => on_axis(desk, &mut WordCard::new(&mut words), axis)?,
-            Bottom::Boot => on_axis(desk, &mut BootCard::new(&words), axis)?,
-        };
-        match powered {
-            Powered::Refused => {}
+        match memory.perform(desk, Task::Power(axis))? {
+            Powered::NoAxis => {}
             Powered::Card(next) => return Ok(Some(next)),
             Powered::End => return Ok(None),
         }
@@ -77,8 +79,27 @@ fn on_card(desk: &mut Desk, bottom: Bottom, count: u32) -> io::Result<Option<New
     Ok(None)
 }
 
-// Words into the card's memory, and questions about its cells, up to a power-up.
-fn set_up(desk: &mut Desk, bottom: Bottom, words: &mut Vec<u32>) -> io::Result<SetUp> {
+// What a card is made of, while it has no axis.
+#[derive(Drop)]
+struct Memory {
+    bottom: Bottom,
+    words: Vec<u32>,
+    layers: Vec<Kind>,
+}
+
+impl Memory {
+    fn perform(&mut self, desk: &mut Desk, task: Task) -> io::Result<Powered> {
+        stack::perform(desk, self.bottom, &mut self.words, &self.layers, task)
+    }
+
+    fn inspect(&mut self, desk: &mut Desk, inspection: Inspection) -> io::Result<()> {
+        let _ = self.perform(desk, Task::Inspect(inspection))?;
+        Ok(())
+    }
+}
+
+// Words and layers, and questions about the cells, up to a power-up.
+fn set_up(desk: &mut Desk, memory: &mut Memory) -> io::Result<SetUp> {
     for _ in 0..desk.lines_left() {
         let Some(command) = desk.next_command()? else {
             return Ok(SetUp::End);
@@ -86,26 +107,40 @@ fn set_up(desk: &mut Desk, bottom: Bottom, words: &mut Vec<u32>) -> io::Result<S
         match command {
             Command::Card(bottom, count) => return Ok(SetUp::Card((bottom, count))),
             Command::PowerInstruction(axis) => return Ok(SetUp::Power(axis)),
-            Command::Words(from, list) => store_words(desk, words, from, &list)?,
-            Command::Look(at) => cells::inspect_words(
-                desk.rt,
-                bottom,
-                words,
-                Inspection::Look(at),
-            )?,
-            Command::Memory(from, count) => {
-                cells::inspect_words(desk.rt, bottom, words, Inspection::Memory(from, count))?
+            Command::Words(from, list) => store_words(desk, &mut memory.words, from, &list)?,
+            Command::Layer(kind) => add_layer(desk, &mut memory.layers, kind)?,
+            Command::Look(at) => memory.inspect(desk, Inspection::Look(at))?,
+            Command::Memory(from, count) => memory.inspect(desk, Inspection::Memory(from, count))?,
+            Command::Place(at, word) => memory.inspect(desk, Inspection::Place(at, word))?,
+            Command::Load(name) => {
+                if let Some(bytes) = read_file(desk, &name)? {
+                    memory.inspect(desk, Inspection::Load(bytes))?;
+                }
             }
-            Command::Place(at, word) => cells::inspect_words(
-                desk.rt,
-                bottom,
-                words,
-                Inspection::Place(at, word),
-            )?,
             _ => desk.misplaced(Misplaced::NoAxis)?,
         }
     }
     Ok(SetUp::End)
+}
+
+// One more layer, unless there are three.
+fn add_layer(desk: &mut Desk, layers: &mut Vec<Kind>, kind: Kind) -> io::Result<()> {
+    if layers.len() >= 3 {
+        return desk.misplaced(Misplaced::FourthLayer);
+    }
+    layers.push(kind)?;
+    println!(desk.rt, "layer ok")
+}
+
+// The bytes of a file; a file that cannot be read is reported.
+fn read_file(desk: &mut Desk, name: &[u8]) -> io::Result<Option<Vec<u8>>> {
+    if let Ok(path) = std::str::from_utf8(name)
+        && let Ok(bytes) = fs::read(desk.rt, path)
+    {
+        return Ok(Some(bytes));
+    }
+    desk.misplaced(Misplaced::Unreadable)?;
+    Ok(None)
 }
 
 // Puts words into the memory from an index on, unless they pass its end.
@@ -128,10 +163,10 @@ fn store_words(
 }
 
 // Powers up, and carries out the commands of the axis up to the next card.
-fn on_axis<C: Card>(desk: &mut Desk, card: &mut C, axis: u32) -> io::Result<Powered> {
+pub fn on_axis<C: Card>(desk: &mut Desk, card: &mut C, axis: u32) -> io::Result<Powered> {
     let rt = desk.rt;
     let Some(mut axis) = machine::power(rt, card, axis)? else {
-        return Ok(Powered::Refused);
+        return Ok(Powered::NoAxis);
     };
     for _ in 0..desk.lines_left() {
         let Some(command) = desk.next_command()? else {
@@ -140,6 +175,7 @@ fn on_axis<C: Card>(desk: &mut Desk, card: &mut C, axis: u32) -> io::Result<Powe
         match command {
             Command::Card(bottom, count) => return Ok(Powered::Card((bottom, count))),
             Command::Words(_, _) => desk.misplaced(Misplaced::WordsAfterPower)?,
+            Command::Layer(_) => desk.misplaced(Misplaced::LayerAfterPower)?,
             Command::PowerInstruction(number) => {
                 if let Some(next) = machine::power(rt, card, number)? {
                     axis = next;
@@ -152,6 +188,11 @@ fn on_axis<C: Card>(desk: &mut Desk, card: &mut C, axis: u32) -> io::Result<Powe
                 Inspection::Memory(from, count),
             )?,
             Command::Place(at, word) => cells::inspect(rt, card, Inspection::Place(at, word))?,
+            Command::Load(name) => {
+                if let Some(bytes) = read_file(desk, &name)? {
+                    cells::inspect(rt, card, Inspection::Load(bytes))?;
+                }
+            }
             Command::Instruction(count) => machine::run(rt, &mut axis, card, count)?,
             Command::Reset => machine::reset(rt, &mut axis)?,
             Command::Registers => machine::registers(rt, &axis)?,

@@ -1,7 +1,7 @@
 -- The meaning of the two bottom cards, which lie over lent words.
 -- A reader must believe: address n has a cell if word n is there and n is below 65,536, and is absent otherwise, with
 -- the card itself as origin. The word card's cells are open, the boot card's fixed. No transfer has a wait.
-use Prim.Native.Nat.{ℕ, _<_}
+use Prim.Native.Nat.{ℕ}
 use mathlib.Core.Path.{_≡_}
 use mathlib.Core.Bool.{Bool, cond, _&&_}
 use mathlib.Core.List.{List}

@@ -7,13 +7,15 @@ use Rattle.command.specs.Words.{spells}
 use Rattle.std.specs.declared.option.Option.{Option}
 use Rattle.std.specs.declared.option.Option.the-variants.{Some, None}
 use Rattle.command.specs.declared.keyword.Keyword.{Keyword}
-use Rattle.command.specs.declared.keyword.Keyword.the-variants.{Card, Words, Power, Instruction, Reset, Registers}
+use Rattle.command.specs.declared.keyword.Keyword.the-variants.{Card, Words, Layer, Load, Power, Instruction, Reset, Registers}
 use Rattle.command.specs.declared.keyword.Keyword.the-variants.{Flags, Pc, Fault, Look, Memory, Place}
 
 abbrev pub keywordOf : List ℕ → Option Keyword
 keywordOf w =
     cond (spells w "card") (Some Card)
     (cond (spells w "words") (Some Words)
+    (cond (spells w "layer") (Some Layer)
+    (cond (spells w "load") (Some Load)
     (cond (spells w "power") (Some Power)
     (cond (spells w "instruction") (Some Instruction)
     (cond (spells w "reset") (Some Reset)
@@ -24,4 +26,4 @@ keywordOf w =
     (cond (spells w "look") (Some Look)
     (cond (spells w "memory") (Some Memory)
     (cond (spells w "place") (Some Place)
-    None)))))))))))
+    None)))))))))))))

@@ -16,17 +16,19 @@ use Rattle.command.specs.declared.Command.the-variants as the
 use Rattle.command.specs.declared.Wrong.{Wrong}
 use Rattle.command.specs.declared.Wrong.the-variants.{BadByte, UnknownCommand, NoMemory}
 use Rattle.command.specs.declared.keyword.Keyword.{Keyword}
-use Rattle.command.specs.declared.keyword.Keyword.the-variants.{Card, Words, Power, Instruction, Reset, Registers}
+use Rattle.command.specs.declared.keyword.Keyword.the-variants.{Card, Words, Layer, Load, Power, Instruction, Reset, Registers}
 use Rattle.command.specs.declared.keyword.Keyword.the-variants.{Flags, Pc, Fault, Look, Memory, Place}
 use Rattle.command.specs.Keywords.{keywordOf}
 use Rattle.command.specs.Sentences.{Said, nothing, command, wrong, meant, only}
-use Rattle.command.specs.Sentences.{cardOf, storeOf, powerOf, instructionOf, lookOf, memoryOf, placeOf}
+use Rattle.command.specs.Sentences.{cardOf, storeOf, layerOf, loadOf, powerOf, instructionOf, lookOf, memoryOf, placeOf}
 use Rattle.command.specs.Words.{spoken, anyBad, wordsOf}
 
 -- what the words after a keyword say
 abbrev pub sentenceOf : Keyword → List (List ℕ) → Said
 sentenceOf Card ws = cardOf ws
 sentenceOf Words ws = storeOf ws
+sentenceOf Layer ws = layerOf ws
+sentenceOf Load ws = loadOf ws
 sentenceOf Power ws = powerOf ws
 sentenceOf Instruction ws = instructionOf ws
 sentenceOf Reset ws = only ws (command the.Reset)
@@ -50,9 +52,9 @@ commandOf (w ∷ ws) = after (keywordOf w) ws
 abbrev pub lineOf : List ℕ → Said
 lineOf line = cond (anyBad (spoken line)) (wrong BadByte) (commandOf (wordsOf (spoken line)))
 
--- memory is needed where `words` has a word to keep
+-- memory is needed where `words` has a word to keep, and `load` a name
 abbrev pub Keeps : Option Keyword → List (List ℕ) → Type 0
-Keeps k ws = (k ≡ Some Words) × (1 < length ws)
+Keeps k ws = ((k ≡ Some Words) × (1 < length ws)) ⊎ ((k ≡ Some Load) × (0 < length ws))
 
 abbrev pub LineKeeps : List (List ℕ) → Type 0
 LineKeeps [] = ⊥

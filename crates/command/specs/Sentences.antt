@@ -11,24 +11,28 @@ use Rattle.std.specs.Of.Vec.{vec-items}
 use Rattle.std.specs.declared.result.Result.{Result}
 use Rattle.std.specs.declared.result.Result.the-variants.{Ok, Err}
 use Rattle.command.specs.declared.Command.{Command}
-use Rattle.command.specs.declared.Command.the-variants.{Card, Words, PowerInstruction, Instruction, Reset, Registers}
+use Rattle.command.specs.declared.Command.the-variants.{Card, Words, Layer, Load, PowerInstruction, Instruction, Reset, Registers}
 use Rattle.command.specs.declared.Command.the-variants.{Flags, Pc, Fault, Look, Memory, Place}
+use Rattle.layer.specs.declared.kind.Kind.the-variants.{Offset, Guard, Slow}
 use Rattle.command.specs.declared.Wrong.{Wrong}
-use Rattle.command.specs.declared.Wrong.the-variants.{MissingOperand, ExtraOperand, UnknownMachine}
-use Rattle.command.specs.declared.Wrong.the-variants.{CardTooLarge, PastLastAddress, NoMemory}
+use Rattle.command.specs.declared.Wrong.the-variants.{MissingOperand, ExtraOperand, UnknownLayer, UnknownMachine}
+use Rattle.command.specs.declared.Wrong.the-variants.{CardTooLarge, SlowTooLarge, PastLastAddress, NoMemory}
 use Rattle.command.specs.Operands.{operandOf, bottomOf, numbersOf}
 use Rattle.command.specs.Words.{spells}
 
--- what a line says; `words` is a command too, with a list for the code's vector
+-- what a line says; `words` and `load` are commands too, with a list for the code's vector
 pub data Said : Type 0 where
   nothing : Said
   command : Command → Said
   words : ℕ → List ℕ → Said
+  load : List ℕ → Said
   wrong : Wrong → Said
 
 abbrev pub meant : Command → Said
 meant (Card kind n) = command (Card kind n)
 meant (Words a v) = words a (vec-items v)
+meant (Layer kind) = command (Layer kind)
+meant (Load v) = load (vec-items v)
 meant (PowerInstruction axis) = command (PowerInstruction axis)
 meant (Instruction n) = command (Instruction n)
 meant Reset = command Reset
@@ -74,6 +78,26 @@ stored a (Err e) = wrong e
 
 abbrev pub storeOf : List (List ℕ) → Said
 storeOf ws = number ws (λ a ws. stored a (numbersOf ws))
+
+abbrev pub offsetOf : List (List ℕ) → Said
+offsetOf ws = number ws (λ base ws. only ws (command (Layer (Offset base))))
+
+abbrev pub guardOf : List (List ℕ) → Said
+guardOf ws = number ws (λ first ws. number ws (λ last ws. only ws (command (Layer (Guard first last)))))
+
+abbrev pub slowOf : List (List ℕ) → Said
+slowOf ws = number ws (λ n ws. cond (leb n 255) (only ws (command (Layer (Slow n)))) (wrong SlowTooLarge))
+
+abbrev pub layerOf : List (List ℕ) → Said
+layerOf [] = wrong MissingOperand
+layerOf (w ∷ ws) =
+    cond (spells w "offset") (offsetOf ws)
+    (cond (spells w "guard") (guardOf ws) (cond (spells w "slow") (slowOf ws) (wrong UnknownLayer)))
+
+-- a file's name is any word
+abbrev pub loadOf : List (List ℕ) → Said
+loadOf [] = wrong MissingOperand
+loadOf (w ∷ ws) = only ws (load w)
 
 abbrev pub powerInstructionOf : List (List ℕ) → Said
 powerInstructionOf ws = number ws (λ axis ws. only ws (command (PowerInstruction axis)))

@@ -5,7 +5,8 @@ ghost use lib.Dec.{leb};
 ghost use lib.ListN.{length};
 ghost use Rattle.std.specs.declared.option.Option.the-variants.{Some};
 ghost use Rattle.command.specs.Words.{wordsOf};
-ghost use Rattle.command.specs.Sentences.{told, meant, only, Tells, cardOf, storeOf, powerOf, powerInstructionOf};
+ghost use Rattle.command.specs.Sentences.{told, meant, only, Tells, cardOf, storeOf, layerOf, offsetOf, guardOf};
+ghost use Rattle.command.specs.Sentences.{slowOf, loadOf, powerOf, powerInstructionOf};
 ghost use Rattle.command.specs.Sentences.{instructionOf, lookOf, memoryOf, placeOf};
 ghost use Rattle.command.specs.Lines.{sentenceOf, Keeps};
 use crate::Command;
@@ -16,6 +17,7 @@ use crate::line::spells;
 use crate::operands::bottom;
 use crate::operands::numbers;
 use crate::operands::operand;
+use layer::Kind;
 use std::alloc::Global;
 
 const CARD_LIMIT: u32 = 65536;
@@ -27,6 +29,8 @@ pub fn sentence(heap: Global, keyword: Keyword, text: &[u8]) -> Result<Command, 
     match keyword {
         Keyword::Card => card(text),
         Keyword::Words => words(heap, text),
+        Keyword::Layer => layer(text),
+        Keyword::Load => load(heap, text),
         Keyword::Power => power(text),
         Keyword::Instruction => instruction(text),
         Keyword::Reset => only_this(Command::Reset, text),
@@ -70,6 +74,60 @@ fn words(heap: Global, text: &[u8]) -> Result<Command, Wrong>
         return Err(Wrong::MissingOperand);
     }
     Ok(Command::Words(from, list))
+}
+
+fn layer(text: &[u8]) -> Result<Command, Wrong>
+    ensures { λ r. ⌜ told r ≡ layerOf (wordsOf (now (text .entry))) ⌝ }
+{
+    let Some((kind, rest)) = next_word(text) else {
+        return Err(Wrong::MissingOperand);
+    };
+    if spells(kind, b"offset") {
+        offset(rest)
+    } else if spells(kind, b"guard") {
+        guard(rest)
+    } else if spells(kind, b"slow") {
+        slow(rest)
+    } else {
+        Err(Wrong::UnknownLayer)
+    }
+}
+
+fn offset(text: &[u8]) -> Result<Command, Wrong>
+    ensures { λ r. ⌜ told r ≡ offsetOf (wordsOf (now (text .entry))) ⌝ }
+{
+    let (base, rest) = operand(text)?;
+    only_this(Command::Layer(Kind::Offset(base)), rest)
+}
+
+fn guard(text: &[u8]) -> Result<Command, Wrong>
+    ensures { λ r. ⌜ told r ≡ guardOf (wordsOf (now (text .entry))) ⌝ }
+{
+    let (first, rest) = operand(text)?;
+    let (last, rest) = operand(rest)?;
+    only_this(Command::Layer(Kind::Guard(first, last)), rest)
+}
+
+fn slow(text: &[u8]) -> Result<Command, Wrong>
+    ensures { λ r. ⌜ told r ≡ slowOf (wordsOf (now (text .entry))) ⌝ }
+{
+    let (waits, rest) = operand(text)?;
+    if waits > 255 {
+        return Err(Wrong::SlowTooLarge);
+    }
+    only_this(Command::Layer(Kind::Slow(waits as u8)), rest)
+}
+
+fn load(heap: Global, text: &[u8]) -> Result<Command, Wrong>
+    ensures { λ r. ⌜ Tells r (loadOf (wordsOf (now (text .entry)))) (0 < length (wordsOf (now (text .entry)))) ⌝ }
+{
+    let Some((name, rest)) = next_word(text) else {
+        return Err(Wrong::MissingOperand);
+    };
+    let Ok(name) = Vec::from_slice(heap, name) else {
+        return Err(Wrong::NoMemory);
+    };
+    only_this(Command::Load(name), rest)
 }
 
 fn power(text: &[u8]) -> Result<Command, Wrong>

@@ -7,6 +7,8 @@ use crate::line::spells;
 pub enum Keyword {
     Card,
     Words,
+    Layer,
+    Load,
     Power,
     Instruction,
     Reset,
@@ -26,6 +28,10 @@ pub fn find(word: &[u8]) -> Option<Keyword>
         Some(Keyword::Card)
     } else if spells(word, b"words") {
         Some(Keyword::Words)
+    } else if spells(word, b"layer") {
+        Some(Keyword::Layer)
+    } else if spells(word, b"load") {
+        Some(Keyword::Load)
     } else if spells(word, b"power") {
         Some(Keyword::Power)
     } else if spells(word, b"instruction") {

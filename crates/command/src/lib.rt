@@ -4,6 +4,8 @@ ghost use Rattle.std.specs.declared.option.Option.the-variants.{Some};
 ghost use Rattle.command.specs.Lines.{Reads};
 ghost use Rattle.command.specs.Texts.{textOf};
 use grammar::sentence;
+use layer::Kind;
+use layer::KindDebug;
 use line::before_comment;
 use line::has_bad_byte;
 use line::next_word;
@@ -29,6 +31,10 @@ pub enum Command {
     Card(Bottom, u32),
     // words into the bottom card's memory, from this index on
     Words(u32, Vec<u32>),
+    // a layer on top of the card
+    Layer(Kind),
+    // an image, by its file's name
+    Load(Vec<u8>),
     // the instruction machine on this axis
     PowerInstruction(u32),
     // at most so many instructions
@@ -52,12 +58,14 @@ pub enum Wrong {
     BadByte,
     UnknownCommand,
     UnknownCard,
+    UnknownLayer,
     UnknownMachine,
     MissingOperand,
     ExtraOperand,
     NotANumber,
     NumberTooLarge,
     CardTooLarge,
+    SlowTooLarge,
     PastLastAddress,
     NoMemory,
 }
@@ -69,13 +77,15 @@ impl Wrong {
         match self {
             Wrong::BadByte => "a carriage return or a byte outside ASCII",
             Wrong::UnknownCommand => "no such command",
-            Wrong::UnknownCard => "no such card: word or boot",
-            Wrong::UnknownMachine => "no such machine: instruction",
+            Wrong::UnknownCard => "no such card, only word and boot",
+            Wrong::UnknownLayer => "no such layer, only offset, guard and slow",
+            Wrong::UnknownMachine => "no such machine, only instruction",
             Wrong::MissingOperand => "an operand is missing",
             Wrong::ExtraOperand => "an operand too many",
             Wrong::NotANumber => "not a number",
             Wrong::NumberTooLarge => "the number is past 4294967295",
             Wrong::CardTooLarge => "the card is over 65536 words",
+            Wrong::SlowTooLarge => "the waits are over 255",
             Wrong::PastLastAddress => "a cell is past address 0xffffffff",
             Wrong::NoMemory => "no memory is left",
         }

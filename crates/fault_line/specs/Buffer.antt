@@ -1,4 +1,4 @@
--- A buffer that is filled from its front.
+-- A buffer that is filled from its front. Used by private functions only.
 -- A reader must believe that `Holds done before at line` says: the text `done`, which ends at `at`, stands over the
 -- front of what the buffer held before, and the rest of the buffer is as it was.
 use Prim.Native.Nat.{ℕ}

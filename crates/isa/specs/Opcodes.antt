@@ -41,7 +41,7 @@ abbrev pub classIn : List (ℕ × Class) → ℕ → Class
 classIn [] n = Unknown
 classIn (p ∷ ps) n = cond (eqb n (p .0)) (p .1) (classIn ps n)
 
--- Shut to the search for proofs: at an unknown opcode it is twenty tests.
+-- Not unfolded by the search for proofs: at an unknown opcode it is twenty tests.
 unfoldable pub classOf : ℕ → Class
 classOf n = classIn opcodes n
 

@@ -1,9 +1,10 @@
--- One whole transfer, from its begin to its end, with all of its waits.
+-- One whole transfer, from its begin to its end, with all of its waits. Used by private functions only.
+-- A reader must believe: nothing; it follows from the calls of a card.
 use mathlib.Core.Path.{_≡_}
 use Rattle.std.specs.declared.option.Option.{Option}
 use Rattle.std.specs.declared.option.Option.the-variants.{Some, None}
 use Rattle.std.specs.declared.result.Result.{Result}
-use Rattle.std.specs.declared.result.Result.the-variants.{Ok, Err}
+use Rattle.std.specs.declared.result.Result.the-variants.{Ok}
 use Rattle.refusal.specs.declared.Refusal.{Refusal}
 use Rattle.refusal.specs.declared.Refusal.the-variants as refused
 use Rattle.card.specs.declared.transfer.Request.{Request}

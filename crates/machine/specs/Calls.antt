@@ -4,6 +4,7 @@ use Prim.Native.Nat.{ℕ}
 use mathlib.Core.Path.{_≡_}
 use Rattle.std.specs.declared.option.Option.{Option}
 use Rattle.std.specs.declared.option.Option.the-variants.{Some, None}
+use Rattle.std.specs.Results.{okPart}
 use Rattle.std.specs.declared.result.Result.{Result}
 use Rattle.std.specs.declared.result.Result.the-variants.{Ok, Err}
 use Rattle.refusal.specs.declared.Refusal.{Refusal}
@@ -19,7 +20,7 @@ use Rattle.machine.specs.declared.machine.Machine.{Machine}
 use Rattle.machine.specs.declared.machine.Outcome.{Outcome}
 use Rattle.machine.specs.Axes.{axisOf}
 use Rattle.machine.specs.State.{State, stateOf, poweredUp, plus, halted}
-use Rattle.machine.specs.Step.{Step, running}
+use Rattle.machine.specs.Step.{Step, answered, step}
 
 -- Power-up: refused unless the axis is 1, 2 or 3.
 abbrev pub PoweredOk : Axis → Meaning → Result Machine Refusal → Meaning → Type 0
@@ -33,16 +34,16 @@ PoweredAs None c r d = (r ≡ Err refused.Axis) × (d ≡ c)
 abbrev pub PoweredUp : ℕ → Meaning → Result Machine Refusal → Meaning → Type 0
 PoweredUp axis c r d = PoweredAs (axisOf axis) c r d
 
--- The machine n and the card d are what this step leaves, the card without a transfer.
-pub record Takes (s : Step) (c : Meaning) (r : Result Outcome Refusal) (n : Machine) (d : Meaning) : Type 0 where
-  pub answer : r ≡ Ok (s .0)
+-- The machine n and the card d are what a step leaves, the card without a transfer; r is its answer.
+pub record Takes (s : Option Outcome × State) (c : Meaning) (r : Result Outcome Refusal) (n : Machine) (d : Meaning) : Type 0 where
+  pub answer : okPart r ≡ s .0
   pub state : stateOf n (d .map) ≡ s .1
   pub transfer : d .transfer ≡ None
   pub patience : d .patience ≡ c .patience
 
--- A part of an instruction, as a step from the machine m on the card c.
+-- A part of an instruction, as a step from the machine m on the card c. Used by private functions only, as the next.
 abbrev pub Executes : (State → Step) → Machine → Meaning → Result Outcome Refusal → Machine → Meaning → Type 0
-Executes f m c r n d = Takes (f (stateOf m (c .map))) c r n d
+Executes f m c r n d = Takes (answered (f (stateOf m (c .map)))) c r n d
 
 -- The displacement that an instruction goes on with, or none where it halts instead.
 abbrev pub Displaced : End → Machine → Result (Option ℕ) Refusal → Machine → Type 0
@@ -55,7 +56,7 @@ Refused e m c r n d = (r ≡ Err e) × (n ≡ m) × (d ≡ c)
 
 -- One instruction: refused first if the machine has halted, then if a transfer is in being.
 abbrev pub SteppedIdle : Option Transfer → Machine → Meaning → Result Outcome Refusal → Machine → Meaning → Type 0
-SteppedIdle None m c r n d = Executes running m c r n d
+SteppedIdle None m c r n d = Takes (step (stateOf m (c .map))) c r n d
 SteppedIdle (Some t) m c r n d = Refused refused.Transfer m c r n d
 
 abbrev pub SteppedFrom : Option Record → Machine → Meaning → Result Outcome Refusal → Machine → Meaning → Type 0

@@ -3,7 +3,6 @@
 use Prim.Native.Nat.{ℕ}
 use mathlib.Core.Path.{_≡_}
 use mathlib.Core.Logic.{_⊎_}
-use Rattle.std.specs.declared.option.Option.the-variants.{Some, None}
 use Rattle.card.specs.declared.transfer.Direction.the-variants.{Read}
 use Rattle.card.specs.declared.transfer.End.{End}
 use Rattle.card.specs.declared.transfer.End.the-variants.{Word, Fault}
@@ -12,7 +11,6 @@ use Rattle.isa.specs.declared.fields.Instruction.{Instruction}
 use Rattle.isa.specs.declared.opcodes.Class.{Class}
 use Rattle.isa.specs.declared.opcodes.Class.the-variants.{Arithmetic, ArithmeticQuick, Logical, Load, Store, Branch, BranchIndexed, Unknown}
 use Rattle.isa.specs.declared.opcodes.Form.{Form}
-use Rattle.isa.specs.declared.opcodes.Form.the-variants.{Long, Quick}
 use Rattle.isa.specs.Fields.{instructionOf}
 use Rattle.isa.specs.Opcodes.{classOf}
 use Rattle.machine.specs.declared.fault.Fault.{Fault as Record}
@@ -81,6 +79,6 @@ abbrev pub LawfulFrom : End → State → Step → Type 0
 LawfulFrom (Word w) s u = Lawful (classOf (instructionOf w .opcode)) (instructionOf w) s u
 LawfulFrom (Fault cause origin) s u = (u .0 ≡ Halted) × Fails Halted s (u .1)
 
--- The laws hold of an instruction in every state.
+-- The laws hold of an instruction in every state; `running` is what `step` does where there is no fault.
 abbrev pub Laws : Type 0
 Laws = (s : State) → LawfulFrom (endOf Read (s .map (s .pc))) s (running s)

@@ -60,7 +60,7 @@ restarted s =
 abbrev pub plus : ℕ → ℕ → ℕ
 plus a b = (a + b) % 2 ^ 32
 
--- A machine that latched an arithmetic or logical answer, and one that halted.
+-- A machine that latched an arithmetic or logical answer, and one that halted. Used by private functions only.
 abbrev pub latched : Machine → ℕ → Answer → Machine
 latched m r a =
     record {

@@ -33,7 +33,7 @@ use Rattle.machine.specs.State.{State, plus}
 abbrev pub Step : Type 0
 Step = Outcome × State
 
--- Done, with PC at this address and all else as it was.
+-- The state with PC at this address and all else as it was.
 abbrev pub jump : State → ℕ → State
 jump s a =
     record {
@@ -164,9 +164,12 @@ fetched (Fault cause origin) s = halt s stage.Fetch (s .pc) cause origin
 abbrev pub running : State → Step
 running s = fetched (endOf Read (s .map (s .pc))) s
 
+abbrev pub answered : Step → Option Outcome × State
+answered u = (Some (u .0), u .1)
+
 -- One instruction: an answer, or none where there is a fault, and the state afterwards.
 abbrev pub stepFrom : Option Record → State → Option Outcome × State
-stepFrom None s = (Some (running s .0), running s .1)
+stepFrom None s = answered (running s)
 stepFrom (Some f) s = (None, s)
 
 abbrev pub step : State → Option Outcome × State

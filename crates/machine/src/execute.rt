@@ -1,7 +1,6 @@
 // One instruction, by the words that it reads: itself, a displacement, the word at an address.
 ghost use mathlib.Core.Path.{_≡_};
 ghost use Rattle.std.specs.declared.option.Option.the-variants.{None};
-ghost use Rattle.card.specs.Ends.{Map};
 ghost use Rattle.isa.specs.Opcodes.{classOf};
 ghost use Rattle.isa.specs.declared.opcodes.Class.the-variants.{Load, Store};
 ghost use Rattle.machine.specs.declared.machine.Outcome.the-variants.{Halted};

@@ -1,4 +1,5 @@
 -- The meaning of the tests' own card, which has a cell at every address.
+-- A reader must believe: nothing; no promise of the library rests on it.
 use Prim.Native.Nat.{ℕ, _-_, _^_, _≤_}
 use mathlib.Core.Bool.{cond, _&&_}
 use mathlib.Core.List.{List}

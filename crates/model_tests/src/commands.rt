@@ -5,7 +5,27 @@ use command::WrongDebug;
 use command::read;
 use std::test::*;
 
-static LINES: [(&[u8], &str); 85] = [
+static LINES: [(&[u8], &str); 99] = [
+    (
+        b"layer offset 0xffffffff",
+        "Ok(Some(Layer(Offset(4294967295))))",
+    ),
+    (b"layer guard 4 2", "Ok(Some(Layer(Guard(4, 2))))"),
+    (b"layer slow 0", "Ok(Some(Layer(Slow(0))))"),
+    (b"layer slow 255", "Ok(Some(Layer(Slow(255))))"),
+    (b"layer slow 256", "Err(SlowTooLarge)"),
+    (b"layer slow 256 1", "Err(SlowTooLarge)"),
+    (b"layer slow 1 1", "Err(ExtraOperand)"),
+    (b"layer guard 4", "Err(MissingOperand)"),
+    (b"layer offset", "Err(MissingOperand)"),
+    (b"layer", "Err(MissingOperand)"),
+    (b"layer Slow 1", "Err(UnknownLayer)"),
+    (
+        b"load a.image",
+        "Ok(Some(Load([97, 46, 105, 109, 97, 103, 101])))",
+    ),
+    (b"load", "Err(MissingOperand)"),
+    (b"load a b", "Err(ExtraOperand)"),
     (b"", "Ok(None)"),
     (b" \t ", "Ok(None)"),
     (b"# card word 4", "Ok(None)"),

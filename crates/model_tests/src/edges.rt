@@ -3,6 +3,7 @@ use super::edge_card::EdgeCard;
 use super::edge_card::EdgeCardCard;
 use super::edge_card::EdgeCardCells;
 use card::Card;
+use card::Cell;
 use card::Cells;
 use card::Direction;
 use card::Request;
@@ -35,7 +36,7 @@ fn branch_at_the_last_address() -> Result<(), Fail> {
     check(axis.pc() == 0x5100_0100)
 }
 
-// A load with its displacement at 0 goes on at 1; a store at the last address but one goes on at 0.
+// A load with its displacement at 0 goes on at 1; a store at the last address but one halts at a fixed cell.
 #[test]
 fn load_and_store_at_the_last_addresses() -> Result<(), Fail> {
     let first = [0x5100_00fe, 0x5100_00ff, 0, 0, 0, 0, 0, 0];
@@ -53,7 +54,7 @@ fn load_and_store_at_the_last_addresses() -> Result<(), Fail> {
     };
     check(fault.stage.number() == 4 && fault.cause.number() == 2)?;
     check(fault.instruction == 0xffff_fffe && fault.access == 0x2002_0000)?;
-    // from 1 on, the load at 0xffffffff has its displacement at 0
+    // the load at 0xffffffff has its displacement at 0
     axis.reset();
     check(card.place(0, 0x5100_00ff).is_ok())?;
     check(matches!(axis.instruction(&mut card), Ok(Outcome::Done)))?;
@@ -84,4 +85,46 @@ fn foreign_transfer() -> Result<(), Fail> {
     check(Machine::power_up(1, &mut card).is_ok())?;
     check(matches!(axis.instruction(&mut card), Ok(Outcome::Ignored)))?;
     check(axis.pc() == 1)
+}
+
+// An instruction of one word at the last address, and one of two at the last but one, go on at 0.
+#[test]
+fn past_the_last_address() -> Result<(), Fail> {
+    let first = [0x5100_00fe, 0, 0, 0, 0, 0, 0, 0];
+    let mut card = over(first, [0, 0, 0, 0, 0, 0, 0x2103_0000, 0x0000_0005]);
+    let Ok(mut axis) = Machine::power_up(1, &mut card) else {
+        return Err(Fail::new("power-up"));
+    };
+    check(matches!(axis.instruction(&mut card), Ok(Outcome::Done)))?;
+    check(axis.pc() == 0xffff_fffe)?;
+    check(card.place(5, 9).is_ok())?;
+    check(matches!(axis.instruction(&mut card), Ok(Outcome::Done)))?;
+    check(axis.pc() == 0 && matches!(card.look(5), Cell::Open(0)))?;
+    let mut card = over([0x5100_00ff, 0, 0, 0, 0, 0, 0, 0], [0x1004_0006; 8]);
+    let Ok(mut axis) = Machine::power_up(1, &mut card) else {
+        return Err(Fail::new("power-up"));
+    };
+    check(matches!(axis.instruction(&mut card), Ok(Outcome::Done)))?;
+    check(matches!(axis.instruction(&mut card), Ok(Outcome::Done)))?;
+    check(axis.pc() == 0 && axis.register(4) == 6)
+}
+
+// A halt is told before a transfer in being.
+#[test]
+fn halted_before_busy() -> Result<(), Fail> {
+    let mut card = over([0x2101_0000, 100, 0, 0, 0, 0, 0, 0], [0; 8]);
+    let Ok(mut axis) = Machine::power_up(1, &mut card) else {
+        return Err(Fail::new("power-up"));
+    };
+    check(matches!(axis.instruction(&mut card), Ok(Outcome::Halted)))?;
+    check(
+        card.begin(Request {
+                direction: Direction::Read,
+                address: 0,
+            })
+            .is_ok(),
+    )?;
+    check(matches!(axis.instruction(&mut card), Err(Refusal::Halted)))?;
+    axis.reset();
+    check(matches!(axis.instruction(&mut card), Err(Refusal::Transfer)))
 }

@@ -28,6 +28,8 @@ fn faults_on(words: &mut [u32], expected: (u32, u32, u32, u32)) -> Result<(), Fa
     check(fault.instruction == instruction && axis.pc() == instruction)?;
     check(fault.access == access && fault.origin.address == access && fault.origin.layer == 0)?;
     check(fault.cause.number() == cause)?;
+    let flags = axis.flags();
+    check(axis.register(1) == 0 && !flags.v && !flags.n && !flags.z)?;
     check(matches!(axis.instruction(&mut card), Err(Refusal::Halted)))?;
     axis.reset();
     check(axis.fault().is_none() && axis.pc() == 0)

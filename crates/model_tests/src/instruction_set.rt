@@ -1,3 +1,4 @@
+// The instruction set: ends of the range, fields, every opcode, every mask at every setting of the flags.
 use isa::Arithmetic;
 use isa::Class;
 use isa::Flags;

@@ -12,6 +12,10 @@ mod fault_lines;
 #[cfg(test)]
 mod faults;
 #[cfg(test)]
+mod images;
+#[cfg(test)]
 mod instruction_set;
+#[cfg(test)]
+mod layers;
 #[cfg(test)]
 mod opcodes;

@@ -23,31 +23,31 @@ fn run(words: &mut [u32], count: u32) -> Result<Machine, Fail> {
     Ok(axis)
 }
 
-// An opcode on r3 = 5, r1 = 2 and r2 = 3, which hold 4 and 6, with the displacement 1: what r5 and PC are then.
-// The mask of a branch is 5: taken, since V and Z are clear.
-fn expected(opcode: u8) -> (u32, u32) {
+// An opcode on r3 = 5, r1 = 2 and r2 = 3, which hold 100, 11 and 6, with the displacement 1: r5 and PC afterwards, and
+// whether the opcode is known. A branch has mask 5 and is taken, since V and Z are clear.
+fn expected(opcode: u8) -> (u32, u32, bool) {
     match opcode {
-        0x00 => (10, 3),
-        0x01 => (0xffff_fffe, 3),
-        0x02 => (24, 3),
-        0x03 => (0, 3),
-        0x04 => (4, 3),
-        0x05 => (6, 3),
-        0x06 => (2, 3),
-        0x07 => (0, 3),
-        0x10 => (7, 3),
-        0x11 => (1, 3),
-        0x12 => (12, 3),
-        0x13 => (1, 3),
-        0x20 => (0x44, 4),
-        0x21 => (0, 4),
-        0x30 => (0x66, 3),
-        0x31 => (0, 3),
-        0x40 => (0, 5),
-        0x41 => (0, 5),
-        0x50 => (0, 6),
-        0x51 => (0, 7),
-        _ => (0, 3),
+        0x00 => (17, 4, true),
+        0x01 => (5, 4, true),
+        0x02 => (66, 4, true),
+        0x03 => (1, 4, true),
+        0x04 => (2, 4, true),
+        0x05 => (15, 4, true),
+        0x06 => (13, 4, true),
+        0x07 => (9, 4, true),
+        0x10 => (14, 4, true),
+        0x11 => (8, 4, true),
+        0x12 => (33, 4, true),
+        0x13 => (3, 4, true),
+        0x20 => (0x44, 5, true),
+        0x21 => (100, 5, true),
+        0x30 => (0x66, 4, true),
+        0x31 => (100, 4, true),
+        0x40 => (100, 6, true),
+        0x41 => (100, 12, true),
+        0x50 => (100, 7, true),
+        0x51 => (100, 14, true),
+        _ => (100, 4, false),
     }
 }
 
@@ -55,16 +55,45 @@ fn expected(opcode: u8) -> (u32, u32) {
 fn each_opcode() -> Result<(), Fail> {
     for opcode in 0..=255u8 {
         let word = u32::from_be_bytes([opcode, 5, 2, 3]);
-        let mut words = [0x1002_0004, 0x1003_0006, word, 1, 0, 0x44, 0, 0x66, 0, 0];
-        let axis = run(&mut words, 3)?;
-        let (r5, pc) = expected(opcode);
-        check(axis.register(5) == r5)?;
-        check(axis.pc() == pc)?;
+        let mut words = [
+            0x1002_000b,
+            0x1003_0006,
+            0x1005_0064,
+            word,
+            1,
+            0,
+            0,
+            0,
+            0,
+            0,
+            0,
+            0,
+            0x44,
+            0,
+            0x66,
+            0,
+        ];
+        let mut card = WordCard::new(&mut words);
+        let Ok(mut axis) = Machine::power_up(1, &mut card) else {
+            return Err(Fail::new("power-up"));
+        };
+        for _ in 0..3 {
+            check(matches!(axis.instruction(&mut card), Ok(Outcome::Done)))?;
+        }
+        let (r5, pc, known) = expected(opcode);
+        match axis.instruction(&mut card) {
+            Ok(Outcome::Done) => check(known)?,
+            Ok(Outcome::Ignored) => check(!known)?,
+            _ => return Err(Fail::new("halted or refused")),
+        }
+        check(axis.register(5) == r5 && axis.pc() == pc)?;
+        check(words[12] == if opcode == 0x21 { 100 } else { 0x44 })?;
+        check(words[14] == if opcode == 0x31 { 100 } else { 0x66 })?;
     }
     Ok(())
 }
 
-// Four words that leave the flags V, N, Z: an arithmetic result, then a logical one that only moves Z.
+// Two words that leave the flags V, N, Z: an arithmetic result, then a logical one that only moves Z.
 fn flag_setting(v: bool, n: bool, z: bool) -> [u32; 2] {
     let arithmetic = match (v, n) {
         (false, false) => 0x1005_0001,

@@ -10,6 +10,12 @@ pub enum Refusal {
     Halted = 31,
     // a transfer in being where one begins, or none where one is polled
     Transfer = 32,
+    // an image that is too short, or not as long as its directory says
+    Length = 41,
+    // an image of more than 64 segments
+    Count = 42,
+    // a pair of an image's directory that is wrong
+    Pair = 43,
     // a place for a word that is not open
     NotOpen = 44,
     // a buffer too short for every fault line

@@ -16,3 +16,6 @@ returns-in-CardTooLarge c = sym (ap textOf (c .in-CardTooLarge .is))
 
 pub returns-in-PastLastAddress : need.returns-in-PastLastAddress
 returns-in-PastLastAddress c = sym (ap textOf (c .in-PastLastAddress .is))
+
+pub returns-in-UnknownLayer : need.returns-in-UnknownLayer
+returns-in-UnknownLayer c = sym (ap textOf (c .in-UnknownLayer .is))

@@ -1,0 +1,10 @@
+use Prim.Native.Nat.{_-_, _≤_}
+use Rattle.image.specs.Placing.{AllOpen}
+use Rattle.image.proofs.image.Image.first_closed.Given as given
+
+abbrev pub Inv-loop-segment : given.InvT-loop-segment
+Inv-loop-segment g l =
+    (l .n ≤ l .self .count) × AllOpen (l .self .bytes .now) (l .n) (g .C·Cells .meaning (l .card) .map)
+
+abbrev pub μ-loop-segment : given.MeasureT-loop-segment
+μ-loop-segment g l = l .self .count - l .n

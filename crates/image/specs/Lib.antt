@@ -1,0 +1,5 @@
+pub mod Check
+pub mod Directory
+pub mod Placing
+pub mod Segments
+pub mod Words
