@@ -1,5 +1,7 @@
 // The bench: reads a scenario and prints what gets done. Whatever matters is a call of the library; this program only
 // reads, calls and prints.
+#![tactic(auto)]
+
 use anyhow::anyhow;
 use desk::Desk;
 use input::Input;

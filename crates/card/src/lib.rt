@@ -1,4 +1,6 @@
 // Memory cards: what a card means, the interface that every card keeps, and the two cards that lie over lent words.
+#![tactic(auto)]
+
 pub mod boot_card;
 mod bottom;
 pub mod card;

@@ -1,4 +1,6 @@
 // Reads one line of a bench scenario into a command.
+#![tactic(auto)]
+
 ghost use Rattle.std.specs.Prelude.{◌≡◌, Some};
 ghost use Rattle.command.specs.Lines.{Reads};
 ghost use Rattle.command.specs.Texts.{text_of};

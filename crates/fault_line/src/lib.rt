@@ -1,4 +1,6 @@
 // The fault line: what a panel shows of a halted axis, as one line of text, and how that is read again.
+#![tactic(auto)]
+
 ghost use Rattle.std.specs.Prelude.{◌≡◌, length, Decides};
 ghost use Rattle.fault_line.specs.Line.{Counts, InRange, causes, stages, texts};
 

@@ -1,4 +1,6 @@
 // Program images: checking, segments, and placing on a card.
+#![tactic(auto)]
+
 mod directory;
 pub mod image;
 mod number;

@@ -1,4 +1,6 @@
 // The instruction set: the fields of an instruction word, the decode table, arithmetic and logic, the branch condition.
+#![tactic(auto)]
+
 pub mod alu;
 pub mod fields;
 pub mod flags;

@@ -1,4 +1,6 @@
 // The DP32 by instruction: its state, its faults, and the machine that does one instruction a call.
+#![tactic(auto)]
+
 mod access;
 pub mod axis;
 mod execute;

@@ -1,4 +1,6 @@
 // Tests of the library's crates, in a crate of their own so that none is proved a second time with its tests.
+#![tactic(auto)]
+
 #[cfg(test)]
 mod cards;
 #[cfg(test)]

@@ -1,4 +1,6 @@
 // Every refusal of the model. A refused call answers one of these and changes nothing.
+#![tactic(auto)]
+
 ghost use Rattle.std.specs.Prelude.{◌≡◌};
 ghost use Rattle.refusal.specs.Numbers.{number_of};
 
