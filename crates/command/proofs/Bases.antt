@@ -57,15 +57,15 @@ module _ {r : ℕ} {xs : List ℕ} {i n : ℕ} (so : Sofar r xs i n) (h : length
   whole : n ≡ capped (digits_value r xs)
   whole = so.sum ∙ ap (λ s. capped (digits_value r s)) (take_all i xs h)
 
-  all_digits : within (digits_value r xs) ≡ number_in_base r xs
-  all_digits = all_within r xs some (so.digits ∙ at_drop_all (all_digits r) xs i h)
+  number_within : within (digits_value r xs) ≡ number_in_base r xs
+  number_within = all_within r xs some (so.digits ∙ at_drop_all (all_digits r) xs i h)
 
   pub fits : n < 2 ^ 32 → Ok n ≡ number_in_base r xs
   fits low =
       let w = whole in
       let e : n ≡ digits_value r xs = omega arith in
-      ap Ok e ∙ sym (cond-true _ _ _ (le-leb (digits_value r xs) 4294967295 (omega arith))) ∙ all_digits
+      ap Ok e ∙ sym (cond-true _ _ _ (le-leb (digits_value r xs) 4294967295 (omega arith))) ∙ number_within
 
   pub too_large : 2 ^ 32 ≤ n → Err NumberTooLarge ≡ number_in_base r xs
   too_large high =
-      let w = whole in sym (cond-false _ _ _ (lt-leb (digits_value r xs) 4294967295 (omega arith))) ∙ all_digits
+      let w = whole in sym (cond-false _ _ _ (lt-leb (digits_value r xs) 4294967295 (omega arith))) ∙ number_within

@@ -2,7 +2,7 @@
 -- A reader must believe that these are the three ways that such a call can go, and that a refusal is told as minus its
 -- number.
 use Rattle.std.specs.Prelude.{◌≡◌, ℕ, ◌<◌, ◌≤◌, List, ◌++◌, length, drop, ℤ, pos, neg_ℤ}
-use Rattle.std.specs.Borrow.{Bor}
+use Rattle.std.specs.Borrow.{MutBor}
 use Rattle.refusal.specs.declared.Refusal.{Refusal}
 use Rattle.refusal.specs.declared.Refusal.TheVariants.{Buffer, Field}
 use Rattle.refusal.specs.Numbers.{number_of}
@@ -25,7 +25,7 @@ Written f before r after =
     × (after ≡ line_of f ++ drop (length (line_of f)) before)
 
 -- the fields are tested before the buffer, which must do for the longest line
-pub record Answered (f : Fields) (before : Bor (List ℕ)) (r : ℤ) (after : Bor (List ℕ)) : Type 0 where
+pub record Answered (f : Fields) (before : MutBor (List ℕ)) (r : ℤ) (after : MutBor (List ℕ)) : Type 0 where
   pub unfit : (InRange f → ⊥) → Refused Field before.now r after.now
   pub short : InRange f → length before.now < 48 → Refused Buffer before.now r after.now
   pub written : InRange f → 48 ≤ length before.now → Written f before.now r after.now

@@ -5,7 +5,7 @@ use Rattle.command.proofs.grammar.power.Goals as goal
 
 pub returns-then-spells : goal.returns-then-spells
 returns-then-spells c =
-    c.power-instruction.ensures
+    c.power_instruction.ensures
     ∙ sym (ap power_of c.in-Some.ensures.cases ∙ cond-true _ _ _ (sym c.if-spells.ensures))
 
 pub returns-else-spells : goal.returns-else-spells

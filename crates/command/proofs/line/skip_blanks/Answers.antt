@@ -4,8 +4,8 @@ use Rattle.command.specs.Words.{words_of, blank}
 use Rattle.command.proofs.Scans.{blank_goes}
 use Rattle.command.proofs.line.skip_blanks.Goals as goal
 
-pub returns-then-not-is-blank : goal.returns-then-not-is-blank
-returns-then-not-is-blank c =
+pub returns-then-not-is_blank : goal.returns-then-not-is_blank
+returns-then-not-is_blank c =
     let xs = c.args.text.now in
     let i = c.loop-i.i in
     let rest = take_rest xs i in
@@ -13,12 +13,12 @@ returns-then-not-is-blank c =
     record {
       same = ap words_of rest ∙ c.loop-i.invariant;
       bound = omega (arith, ap length rest, length-drop i xs);
-      first = ap blank at ∙ sym c.if-not-is-blank.ensures;
+      first = ap blank at ∙ sym c.if-not-is_blank.ensures;
     }
 
 pub loop-i-preserved : goal.loop-i-preserved
 loop-i-preserved c =
-    let is = sym c.if-not-is-blank.ensures in
+    let is = sym c.if-not-is_blank.ensures in
     sym (blank_goes c.args.text.now c.loop-i.i c.loop-i-test.true is) ∙ c.loop-i.invariant
 
 pub returns : goal.returns

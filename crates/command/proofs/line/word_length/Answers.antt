@@ -2,9 +2,9 @@ use Rattle.std.proofs.Common.{◌≡◌, length, sym, subst, arith}
 use Rattle.command.proofs.Scans.{Whole, word_stops, word_goes, word_all}
 use Rattle.command.proofs.line.word_length.Goals as goal
 
-pub returns-then-is-blank : goal.returns-then-is-blank
-returns-then-is-blank c =
-    let is = sym c.if-is-blank.ensures in
+pub returns-then-is_blank : goal.returns-then-is_blank
+returns-then-is_blank c =
+    let is = sym c.if-is_blank.ensures in
     record {
       within = omega arith;
       stops = λ _. is;
@@ -13,7 +13,7 @@ returns-then-is-blank c =
 
 pub loop-i-preserved : goal.loop-i-preserved
 loop-i-preserved c =
-    let is = sym c.if-is-blank.ensures in
+    let is = sym c.if-is_blank.ensures in
     word_goes c.args.text.now c.loop-i.i c.loop-i-test.true is c.loop-i.invariant
 
 pub returns : goal.returns

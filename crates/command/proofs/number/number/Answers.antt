@@ -8,11 +8,9 @@ use Rattle.command.proofs.number.number.Goals as goal
 pub returns-in-Some : goal.returns-in-Some
 returns-in-Some c =
     let told = c.in-Some.ensures.cases in
-    let is = same_from_decides _ _ (slice_eq-Decides Decides-eqb _ _ _ told.0) (bytes_eq-Decides _ _) in
-    c.in-base.ensures ∙ ap (number_in_base 16) told.1 ∙ sym (cond-true _ _ _ (sym is))
+    c.in_base.ensures ∙ ap (number_in_base 16) told.1 ∙ sym (cond-true _ _ _ told.0)
 
 pub returns-in-None : goal.returns-in-None
 returns-in-None c =
     let told = c.in-None.ensures.cases in
-    let is = same_from_decides _ _ (slice_eq-Decides Decides-eqb _ _ _ told) (bytes_eq-Decides _ _) in
-    c.in-base-in-None.ensures ∙ sym (cond-false _ _ _ (sym is))
+    c.in_base-in-None.ensures ∙ sym (cond-false _ _ _ told)

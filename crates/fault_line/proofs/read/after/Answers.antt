@@ -4,5 +4,5 @@ use Rattle.std.proofs.lemmas.Bool.Decides.{Decides-eqb}
 
 pub returns : goal.returns
 returns c =
-    let r = c.strip-prefix.result in
-    strip_prefix_is Decides-eqb c.args.text.now c.args.mark.now r c.strip-prefix.ensures.cases
+    let r = c.strip_prefix.result in
+    strip_prefix_is Decides-eqb c.args.text.now c.args.mark.now r c.strip_prefix.ensures.cases

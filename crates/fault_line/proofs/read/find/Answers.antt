@@ -10,7 +10,7 @@ loop-i-preserved c =
     below_more _ _ c.loop-i.invariant
     (λ rest e.
     let at = get_or-map (λ t. t.now) c.args.names.now c.loop-i.i _ [] c.loop-i-test.true in
-    c.in-default.ensures rest (e ∙ ap (λ name. name ++ rest) at))
+    c.in_default.ensures rest (e ∙ ap (λ name. name ++ rest) at))
 
 pub returns : goal.returns
 returns c = λ i rest h e. c.loop-i.invariant i (omega arith) rest e

@@ -7,92 +7,92 @@ use Rattle.fault_line.proofs.Lines.{told_axis, told_stage, told_instruction, tol
 use Rattle.fault_line.proofs.Lines.{after_axis, after_stage, after_instruction, after_access, after_cause, after_origin}
 use Rattle.fault_line.proofs.Lines.{after_layer, told_all}
 use Rattle.fault_line.proofs.read.read_line.Goals as goal
-use Rattle.fault_line.proofs.read.read_line.Goals.{else-ends-via-then-ends+else-in-range, else-ends-via-else-ends}
+use Rattle.fault_line.proofs.read.read_line.Goals.{else-ends-via-then-ends+else-in_range, else-ends-via-else-ends}
 
-pub returns-in-err-axis : goal.returns-in-err-axis
-returns-in-err-axis c =
+pub returns-in_err-axis : goal.returns-in_err-axis
+returns-in_err-axis c =
     record {
       read =
-          none c.args.line.now _ c.from-residual.ensures (λ f v e.
-          c.in-err-axis.ensures f.axis (after_axis f) (omega (arith, v.axis_in.1))
+          none c.args.line.now _ c.from_residual.ensures (λ f v e.
+          c.in_err-axis.ensures f.axis (after_axis f) (omega (arith, v.axis_in.1))
           e);
       one_fault = one_fault;
     }
 
-pub returns-in-err-stage : goal.returns-in-err-stage
-returns-in-err-stage c =
+pub returns-in_err-stage : goal.returns-in_err-stage
+returns-in_err-stage c =
     record {
       read =
-          none c.args.line.now _ c.from-residual-in-err-stage.ensures (λ f v e.
-          c.in-err-stage.ensures f.stage (after_stage f) v.stage_in
-          (told_axis f v e c.in-ok-axis.ensures).1);
+          none c.args.line.now _ c.from_residual-in_err-stage.ensures (λ f v e.
+          c.in_err-stage.ensures f.stage (after_stage f) v.stage_in
+          (told_axis f v e c.in_ok-axis.ensures).1);
       one_fault = one_fault;
     }
 
-pub returns-in-err-instruction : goal.returns-in-err-instruction
-returns-in-err-instruction c =
+pub returns-in_err-instruction : goal.returns-in_err-instruction
+returns-in_err-instruction c =
     record {
       read =
-          none c.args.line.now _ c.from-residual-in-err-instruction.ensures (λ f v e.
-          c.in-err-instruction.ensures f.instruction (after_instruction f) v.instruction_in
-          (told_stage f v e c.in-ok-axis.ensures c.in-ok-stage.ensures).1);
+          none c.args.line.now _ c.from_residual-in_err-instruction.ensures (λ f v e.
+          c.in_err-instruction.ensures f.instruction (after_instruction f) v.instruction_in
+          (told_stage f v e c.in_ok-axis.ensures c.in_ok-stage.ensures).1);
       one_fault = one_fault;
     }
 
-pub returns-in-err-access : goal.returns-in-err-access
-returns-in-err-access c =
+pub returns-in_err-access : goal.returns-in_err-access
+returns-in_err-access c =
     record {
       read =
-          none c.args.line.now _ c.from-residual-in-err-access.ensures (λ f v e.
-          c.in-err-access.ensures f.access (after_access f) v.access_in
-          (told_instruction f v e c.in-ok-axis.ensures c.in-ok-stage.ensures
-          c.in-ok-instruction.ensures).1);
+          none c.args.line.now _ c.from_residual-in_err-access.ensures (λ f v e.
+          c.in_err-access.ensures f.access (after_access f) v.access_in
+          (told_instruction f v e c.in_ok-axis.ensures c.in_ok-stage.ensures
+          c.in_ok-instruction.ensures).1);
       one_fault = one_fault;
     }
 
-pub returns-in-err-cause : goal.returns-in-err-cause
-returns-in-err-cause c =
+pub returns-in_err-cause : goal.returns-in_err-cause
+returns-in_err-cause c =
     record {
       read =
-          none c.args.line.now _ c.from-residual-in-err-cause.ensures (λ f v e.
-          c.in-err-cause.ensures f.cause (after_cause f) v.cause_in
-          (told_access f v e c.in-ok-axis.ensures c.in-ok-stage.ensures
-          c.in-ok-instruction.ensures c.in-ok-access.ensures).1);
+          none c.args.line.now _ c.from_residual-in_err-cause.ensures (λ f v e.
+          c.in_err-cause.ensures f.cause (after_cause f) v.cause_in
+          (told_access f v e c.in_ok-axis.ensures c.in_ok-stage.ensures
+          c.in_ok-instruction.ensures c.in_ok-access.ensures).1);
       one_fault = one_fault;
     }
 
-pub returns-in-err-origin : goal.returns-in-err-origin
-returns-in-err-origin c =
+pub returns-in_err-origin : goal.returns-in_err-origin
+returns-in_err-origin c =
     record {
       read =
-          none c.args.line.now _ c.from-residual-in-err-origin.ensures (λ f v e.
-          c.in-err-origin.ensures f.origin (after_origin f) v.origin_in
-          (told_cause f v e c.in-ok-axis.ensures c.in-ok-stage.ensures
-          c.in-ok-instruction.ensures c.in-ok-access.ensures
-          c.in-ok-cause.ensures).1);
+          none c.args.line.now _ c.from_residual-in_err-origin.ensures (λ f v e.
+          c.in_err-origin.ensures f.origin (after_origin f) v.origin_in
+          (told_cause f v e c.in_ok-axis.ensures c.in_ok-stage.ensures
+          c.in_ok-instruction.ensures c.in_ok-access.ensures
+          c.in_ok-cause.ensures).1);
       one_fault = one_fault;
     }
 
-pub returns-in-err-layer : goal.returns-in-err-layer
-returns-in-err-layer c =
+pub returns-in_err-layer : goal.returns-in_err-layer
+returns-in_err-layer c =
     record {
       read =
-          none c.args.line.now _ c.from-residual-in-err-layer.ensures (λ f v e.
-          c.in-err-layer.ensures f.layer (after_layer f) (omega (arith, v.layer_in))
-          (told_origin f v e c.in-ok-axis.ensures c.in-ok-stage.ensures
-          c.in-ok-instruction.ensures c.in-ok-access.ensures
-          c.in-ok-cause.ensures c.in-ok-origin.ensures).1);
+          none c.args.line.now _ c.from_residual-in_err-layer.ensures (λ f v e.
+          c.in_err-layer.ensures f.layer (after_layer f) (omega (arith, v.layer_in))
+          (told_origin f v e c.in_ok-axis.ensures c.in_ok-stage.ensures
+          c.in_ok-instruction.ensures c.in_ok-access.ensures
+          c.in_ok-cause.ensures c.in_ok-origin.ensures).1);
       one_fault = one_fault;
     }
 
-pub returns-then-in-range : goal.returns-then-in-range
-returns-then-in-range c =
-    let line = whole _ c.in-ok-stage.stage _ _ c.in-ok-cause.cause _ _
-    c.in-ok-axis.ensures.1 c.in-ok-stage.ensures.1
-    c.in-ok-instruction.ensures.1 c.in-ok-access.ensures.1
-    c.in-ok-cause.ensures.1 c.in-ok-origin.ensures.1
-    c.in-ok-layer.ensures.1 (c.if-ends.ensures.0 refl) in
-    record { read = some c.args.line.now _ (c.if-in-range.ensures.0 refl) line; one_fault = one_fault }
+pub returns-then-in_range : goal.returns-then-in_range
+returns-then-in_range c =
+    let line = whole _ c.in_ok-stage.stage _ _ c.in_ok-cause.cause _ _
+    c.in_ok-axis.ensures.1 c.in_ok-stage.ensures.1
+    c.in_ok-instruction.ensures.1 c.in_ok-access.ensures.1
+    c.in_ok-cause.ensures.1 c.in_ok-origin.ensures.1
+    c.in_ok-layer.ensures.1 (c.if-ends.ensures.0 refl) in
+    record { read = some c.args.line.now _ (c.if-in_range.ensures.0 refl) line; one_fault = one_fault }
 
 pub returns-else-ends : goal.returns-else-ends
 returns-else-ends c =
@@ -100,13 +100,13 @@ returns-else-ends c =
       read =
           none c.args.line.now _ refl (λ f v e.
           let t = told_all f v e
-          c.in-ok-axis.ensures c.in-ok-stage.ensures
-          c.in-ok-instruction.ensures c.in-ok-access.ensures
-          c.in-ok-cause.ensures c.in-ok-origin.ensures
-          c.in-ok-layer.ensures in
+          c.in_ok-axis.ensures c.in_ok-stage.ensures
+          c.in_ok-instruction.ensures c.in_ok-access.ensures
+          c.in_ok-cause.ensures c.in_ok-origin.ensures
+          c.in_ok-layer.ensures in
           elim c.else-ends.branch [
-            | else-ends-via-then-ends+else-in-range w ↦
-                both_ways _ w.if-in-range.false (w.in-range.ensures.1 (subst InRange (sym t.0) v))
+            | else-ends-via-then-ends+else-in_range w ↦
+                both_ways _ w.if-in_range.false (w.in_range.ensures.1 (subst InRange (sym t.0) v))
             | else-ends-via-else-ends w ↦ both_ways _ w.if-ends.false (c.ends.ensures.1 t.1)
           ]);
       one_fault = one_fault;

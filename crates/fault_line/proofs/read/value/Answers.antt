@@ -9,22 +9,22 @@ pub loop-character-init : goal.loop-character-init
 unfolding digits
 loop-character-init c = (rw pow-zero (omega arith), refl)
 
-pub overflow-mul-n : goal.overflow-mul-n
-overflow-mul-n c =
+pub overflow_mul-n : goal.overflow_mul-n
+overflow_mul-n c =
     let k = length c.args.text.now in
     search (rules, below_all c.args.base c.loop-character.character-index k c.loop-character.n 0)
 
-pub overflow-add-n : goal.overflow-add-n
-overflow-add-n c =
-    let h = below_all c.args.base _ _ _ _ c.loop-character-test.true c.in-ok-n.ensures.0
+pub overflow_add-n : goal.overflow_add-n
+overflow_add-n c =
+    let h = below_all c.args.base _ _ _ _ c.loop-character-test.true c.in_ok-n.ensures.0
     c.loop-character.invariant.0 in
     search rules
 
-pub returns-in-err-n : goal.returns-in-err-n
-returns-in-err-n c =
-    rw c.from-residual.ensures (λ n e.
+pub returns-in_err-n : goal.returns-in_err-n
+returns-in_err-n c =
+    rw c.from_residual.ensures (λ n e.
     no_digit c.args.base _ n c.args.text.now (omega arith) c.loop-character-test.true
-    c.in-err-n.ensures e)
+    c.in_err-n.ensures e)
 
 pub loop-character-preserved : goal.loop-character-preserved
 loop-character-preserved c = search (rules, below_more, one_read, take_more)

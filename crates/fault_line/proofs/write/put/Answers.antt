@@ -6,5 +6,5 @@ pub returns : goal.returns
 returns c =
     record {
       end = search rules;
-      puts = rw c.copy-from-slice.ensures.after (grows c.args.text.now c.args.at c.args.line.now);
+      puts = rw c.copy_from_slice.ensures.after (grows c.args.text.now c.args.at c.args.line.now);
     }

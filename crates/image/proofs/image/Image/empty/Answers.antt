@@ -2,6 +2,6 @@ use Rattle.std.proofs.Common.{rules}
 use Rattle.image.specs.Directory.{number}
 use Rattle.image.proofs.image.Image.empty.Goals as goal
 
-pub invariant-of-result : goal.invariant-of-result
+pub invariant_of-result : goal.invariant_of-result
 unfolding number
-invariant-of-result c = search rules
+invariant_of-result c = search rules

@@ -8,11 +8,11 @@ returns-then-bytes-lt4 c = no_count (search rules)
 pub returns-then-count-gt64 : goal.returns-then-count-gt64
 returns-then-count-gt64 c = too_many (search rules) (search rules)
 
-pub returns-then-bytes-directory-end : goal.returns-then-bytes-directory-end
-returns-then-bytes-directory-end c = cut_short (search rules) (search rules) (search rules)
+pub returns-then-bytes-directory_end : goal.returns-then-bytes-directory_end
+returns-then-bytes-directory_end c = cut_short (search rules) (search rules) (search rules)
 
-pub returns-then-not-pairs-right : goal.returns-then-not-pairs-right
-returns-then-not-pairs-right c = wrong_pair (search rules) (search rules)
+pub returns-then-not-pairs_right : goal.returns-then-not-pairs_right
+returns-then-not-pairs_right c = wrong_pair (search rules) (search rules)
 
 pub returns-then-bytes-start : goal.returns-then-bytes-start
 returns-then-bytes-start c = wrong_total (search rules) (search rules) (search rules)
