@@ -71,10 +71,9 @@ fn write(fields: Fields, line: &mut [u8]) -> usize
     put(b"\n", at, line)
 }
 
-// Writes the line of a fault into a buffer, for a panel written in C. The answer is the line's length, or minus the
-// number of the refusal: a field is out of its range, or the buffer does not do for every line.
-#[unsafe(no_mangle)]
-pub extern "C" fn dp32_fault_line(
+// Writes the line of a fault into a buffer. The answer is the line's length, or minus the number of the refusal: a field is
+// out of its range, or the buffer does not do for every line. The crate fault_line_c exports it to a panel written in C.
+pub fn dp32_fault_line(
     axis: u32,
     stage: u32,
     instruction: u32,
