@@ -122,10 +122,10 @@ fn segments(rt: HostRuntime) -> Result<(), Fail> {
     image.check(&bytes)?;
     let first = image.segment(0).ok_or("no first")?;
     assert_eq!(rt; first.offset, 2);
-    assert_eq!(rt; first.words, &[1, 2, 3, 4, 5, 6, 7, 8]);
+    assert_eq!(rt; first.words, [1, 2, 3, 4, 5, 6, 7, 8].as_slice());
     let last = image.segment(1).ok_or("no last")?;
     assert_eq!(rt; last.offset, 4);
-    assert_eq!(rt; last.words, &[9, 10, 11, 12]);
+    assert_eq!(rt; last.words, [9, 10, 11, 12].as_slice());
     assert!(rt; image.segment(2).is_none());
     Ok(())
 }
