@@ -5,7 +5,6 @@ use Rattle.std.specs.Prelude.{◌≡◌, ℕ, Bool, cond, ◌&&◌, List, length
 use Rattle.std.specs.Borrow.{MutBor}
 use Rattle.std.specs.Option as options
 use Rattle.card.specs.declared.boot_card.BootCard.{BootCard}
-use Rattle.card.specs.declared.cell.Cell.{Cell}
 use Rattle.card.specs.declared.cell.Cell.TheVariants.{Absent, Fixed, Open}
 use Rattle.card.specs.declared.cell.Origin.{Origin}
 use Rattle.card.specs.declared.transfer.Direction.{Direction}

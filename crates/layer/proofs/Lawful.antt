@@ -1,12 +1,12 @@
 -- The laws of layers.
-use Rattle.std.proofs.Common.{◌≡◌, ℕ, ◌+◌, ◌-◌, ◌<◌, ◌≤◌, Bool, true, false, cond, ◌&&◌, ◌||◌, leb, ◌⊎◌, sym, refl, ap, ◌∙◌, inl, inr, ⊎_elim, arith}
+use Rattle.std.proofs.Common.{◌≡◌, ℕ, ◌+◌, ◌-◌, ◌<◌, ◌≤◌, Bool, true, false, ◌||◌, sym, refl, ◌∙◌, ⊎_elim, arith}
 use Rattle.std.proofs.lemmas.Bool.{le-leb, lt-leb, cases_lt}
 use Rattle.card.specs.declared.cell.Cell.{Cell}
 use Rattle.card.specs.declared.cell.Cell.TheVariants.{Absent, Fixed, Open}
 use Rattle.card.specs.Ends.{Map}
-use Rattle.layer.specs.declared.kind.Kind.TheVariants.{Offset, Guard, Slow}
+use Rattle.layer.specs.declared.kind.Kind.TheVariants.{Offset, Guard}
 use Rattle.layer.specs.Kinds.{guards}
-use Rattle.layer.specs.Laws.{Laws, bare, SameCells, fixing}
+use Rattle.layer.specs.Laws.{Laws, bare, SameCells}
 use Rattle.layer.specs.Shown.{shown, lifted}
 
 -- What a cell is without its origin survives two lifts.
