@@ -6,10 +6,10 @@ use anyhow::anyhow;
 use desk::Desk;
 use input::Input;
 
+mod axis_commands;
 mod cells;
 mod desk;
 mod input;
-mod machine;
 mod scenario;
 mod stack;
 

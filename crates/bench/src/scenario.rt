@@ -2,7 +2,7 @@
 use super::cells::Inspection;
 use super::desk::{Desk, Misplaced};
 use super::stack::Task;
-use super::{cells, machine, stack};
+use super::{axis_commands, cells, stack};
 use card::Card;
 use command::{Bottom, Command};
 use layer::Kind;
@@ -160,7 +160,7 @@ fn store_words(
 // Powers up, and carries out the commands of the axis up to the next card.
 pub fn on_axis<C: Card>(desk: &mut Desk, card: &mut C, axis: u32) -> io::Result<Powered> {
     let rt = desk.rt;
-    let Some(mut axis) = machine::power(rt, card, axis)? else {
+    let Some(mut axis) = axis_commands::power(rt, card, axis)? else {
         return Ok(Powered::NoAxis);
     };
     for _ in 0..desk.lines_left() {
@@ -172,7 +172,7 @@ pub fn on_axis<C: Card>(desk: &mut Desk, card: &mut C, axis: u32) -> io::Result<
             Command::Words(_, _) => desk.misplaced(Misplaced::WordsAfterPower)?,
             Command::Layer(_) => desk.misplaced(Misplaced::LayerAfterPower)?,
             Command::PowerInstruction(number) => {
-                if let Some(next) = machine::power(rt, card, number)? {
+                if let Some(next) = axis_commands::power(rt, card, number)? {
                     axis = next;
                 }
             }
@@ -188,12 +188,12 @@ pub fn on_axis<C: Card>(desk: &mut Desk, card: &mut C, axis: u32) -> io::Result<
                     cells::inspect(rt, card, Inspection::Load(bytes))?;
                 }
             }
-            Command::Instruction(count) => machine::run(rt, &mut axis, card, count)?,
-            Command::Reset => machine::reset(rt, &mut axis)?,
-            Command::Registers => machine::registers(rt, &axis)?,
-            Command::Flags => machine::flags(rt, &axis)?,
-            Command::Pc => machine::pc(rt, &axis)?,
-            Command::Fault => machine::fault(rt, &axis)?,
+            Command::Instruction(count) => axis_commands::run(rt, &mut axis, card, count)?,
+            Command::Reset => axis_commands::reset(rt, &mut axis)?,
+            Command::Registers => axis_commands::registers(rt, &axis)?,
+            Command::Flags => axis_commands::flags(rt, &axis)?,
+            Command::Pc => axis_commands::pc(rt, &axis)?,
+            Command::Fault => axis_commands::fault(rt, &axis)?,
         }
     }
     Ok(Powered::End)

@@ -1,5 +1,5 @@
 -- The number that a word stands for: decimal digits, or hexadecimal ones after `0x`, up to 4294967295.
--- A reader must believe that `digitValue` is the value of a digit or letter, capital or small, and 36 of any other
+-- A reader must believe that `digit_value` is the value of a digit or letter, capital or small, and 36 of any other
 -- byte, and that `value` is the number that digits write, the first one highest.
 use Rattle.std.specs.Prelude.{ℕ, Bool, true, cond, ◌&&◌, List, [], ◌∷◌, take, drop, Ok, Err, Result, nat_le, nat_lt}
 use Rattle.std.specs.Str.Parse.{digits_value}

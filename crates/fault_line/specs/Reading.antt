@@ -1,5 +1,5 @@
 -- What reading a fault line gives, and that no two faults share one.
--- A reader must believe that `Read` is what a reader of lines owes, and that `One-fault` is why a line tells its fault.
+-- A reader must believe that `Read` is what a reader of lines owes, and that `OneFault` is why a line tells its fault.
 use Rattle.std.specs.Prelude.{◌≡◌, ℕ, ◌^◌, ◌<◌, List, ◌++◌, length, Some, codes, Option, MatchOption, ◌≢◌}
 use Rattle.std.specs.Borrow.{Bor}
 use Rattle.fault_line.specs.declared.Fields.{Fields}
