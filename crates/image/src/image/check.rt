@@ -4,9 +4,7 @@
 ghost use Rattle.std.specs.Prelude.{◌≡◌, [], ◌∷◌};
 ghost use Rattle.image.specs.Check.{Checked, Tested};
 
-use super::Image;
-use crate::directory::{directory_end, pairs_right, start};
-use crate::number::number_at;
+use super::{Image, directory_end, number_at, pairs_right, start};
 use refusal::Refusal;
 
 impl<'a> Image<'a> {

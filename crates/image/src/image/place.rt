@@ -1,10 +1,12 @@
 // Placing an image on a card.
+ghost use Rattle.std.specs.Prelude.{◌≡◌, ◌+◌, ◌^◌, ◌≤◌};
+ghost use Rattle.card.specs.Meaning.{mapped};
 ghost use Rattle.image.specs.Placing.{AllOpen, Looked, Laid, PlacedImage};
+ghost use Rattle.image.specs.Words.{cell_is_open, words_in, OpenFrom, ClosedIn, laid};
 
-use super::Image;
+use super::{Image, number_at};
 use crate::placing::NotPlaced;
-use crate::words;
-use card::Cells;
+use card::{Cell, Cells};
 
 impl<'a> Image<'a> {
     // Puts every word at its address, or nothing at all if some address is not open.
@@ -25,7 +27,7 @@ impl<'a> Image<'a> {
     {
         let mut n = 0;
         while let Some(segment) = self.segment(n) {
-            if let Some(address) = words::first_closed(segment.offset, segment.words, card) {
+            if let Some(address) = first_closed(segment.offset, segment.words, card) {
                 return Some(address);
             }
             n += 1;
@@ -40,8 +42,40 @@ impl<'a> Image<'a> {
     {
         let mut n = 0;
         while let Some(segment) = self.segment(n) {
-            words::lay(segment.offset, segment.words, card);
+            lay(segment.offset, segment.words, card);
             n += 1;
         }
+    }
+}
+
+fn is_open(cell: Cell) -> bool
+    ensures { result ≡ cell_is_open cell }
+{
+    matches!(cell, Cell::Open(_))
+}
+
+// The first address of the words that is not open.
+fn first_closed<C: Cells>(offset: u32, words: &[u8], card: &C) -> Option<u32>
+    requires { offset + words_in words.now ≤ 2 ^ 32 }
+    ensures { ClosedIn (C.Cells.meaning card.now).map offset words.now result }
+{
+    for k in 0..words.len() / 4 {
+        let address = offset + k as u32;
+        if !is_open(card.look(address)) {
+            return Some(address);
+        }
+    }
+    None
+}
+
+// Puts the words at their addresses, which are all open: so no place is refused.
+fn lay<C: Cells>(offset: u32, words: &[u8], card: &mut C)
+    requires { (offset + words_in words.now ≤ 2 ^ 32) × (OpenFrom (C.Cells.meaning card.old).map offset (offset + words_in words.now)) }
+    ensures { C.Cells.meaning card.new ≡ mapped
+        (laid offset words.now (words_in words.now) (C.Cells.meaning card.old).map)
+        (C.Cells.meaning card.old) }
+{
+    for n in 0..words.len() / 4 {
+        let _ = card.place(offset + n as u32, number_at(words, 4 * n));
     }
 }

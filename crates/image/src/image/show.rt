@@ -1,8 +1,7 @@
 // The segments of an image, by number.
 ghost use Rattle.image.specs.Segments.{Shown};
 
-use super::Image;
-use crate::directory::{pair_at, start};
+use super::{Image, pair_at, start};
 use crate::segment::Segment;
 
 impl<'a> Image<'a> {

@@ -1,7 +1,7 @@
 use Rattle.std.proofs.Common.{rules, below_more}
 use Rattle.image.specs.Directory.{RightPair}
 use Rattle.image.proofs.Pairs.{floor_more}
-use Rattle.image.proofs.directory.pairs_right.Goals as goal
+use Rattle.image.proofs.image.pairs_right.Goals as goal
 
 pub returns-then-pair-eq0 : goal.returns-then-pair-eq0
 returns-then-pair-eq0 c right = let here = right c.loop-n.n c.loop-n-test.true in search rules

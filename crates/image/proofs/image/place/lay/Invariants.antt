@@ -1,7 +1,7 @@
 use Rattle.std.proofs.Common.{◌≡◌}
 use Rattle.card.specs.Meaning.{mapped}
 use Rattle.image.specs.Words.{laid}
-use Rattle.image.proofs.words.lay.Given as goal
+use Rattle.image.proofs.image.place.lay.Given as goal
 
 abbrev pub invariant-loop-n : goal.invariant-loop-n
 invariant-loop-n g l =
