@@ -1,6 +1,7 @@
--- The number of each refusal: what a crew, a panel or a log is told.
+-- The number of each refusal: what a crew, a panel or a log is told, and how it is printed.
 -- A reader must believe that these are the published numbers.
-use Rattle.std.specs.Prelude.{ℕ}
+use Rattle.std.specs.Prelude.{ℕ, List}
+use Rattle.std.specs.Fmt.{decimal}
 use Rattle.refusal.specs.declared.Refusal.{Refusal}
 use Rattle.refusal.specs.declared.Refusal.TheVariants.{Axis, Halted, Transfer, Length, Count, Pair, NotOpen, Buffer, Field}
 
@@ -14,3 +15,7 @@ number_of Pair = 43
 number_of NotOpen = 44
 number_of Buffer = 45
 number_of Field = 46
+
+-- A refusal is printed as its number, in decimal digits.
+abbrev pub text_of : Refusal → List ℕ
+text_of refusal = decimal (number_of refusal)
