@@ -8,9 +8,7 @@ use Rattle.card.specs.declared.cell.Cell.{Cell}
 use Rattle.card.specs.declared.cell.Cell.TheVariants.{Absent, Fixed, Open}
 use Rattle.card.specs.declared.transfer.Request.{Request}
 use Rattle.card.specs.declared.transfer.Transfer.{Transfer}
-use Rattle.card.specs.declared.transfer.Polled.{Polled}
-use Rattle.card.specs.declared.transfer.Polled.TheVariants.{Waiting, Ended}
-use Rattle.card.specs.Ends.{Map, end_of, leaves, stored}
+use Rattle.card.specs.Ends.{Map, End, end_of, leaves, stored}
 
 pub record Meaning : Type 0 where
   pub map : Map
@@ -57,14 +55,22 @@ BegunFrom (Some t) m q r n = Refuses refused.Transfer r m n
 abbrev pub Begun : Meaning → Request → Result ℕ Refusal → Meaning → Type 0
 Begun m q r n = BegunFrom m.transfer m q r n
 
--- Poll: one wait less while there are waits left, else the end of the transfer.
-abbrev pub AnsweredAt : ℕ → Request → Meaning → Result Polled Refusal → Meaning → Type 0
-AnsweredAt zero q m r n = (r ≡ Ok (Ended (end_of q.direction (m.map q.address)))) × (n ≡ finished q m)
-AnsweredAt (suc w) q m r n = (r ≡ Ok Waiting) × (n ≡ waiting q w m)
+-- A transfer with one wait less, while it has one.
+abbrev pub one_less : Request → ℕ → Option Transfer
+one_less q zero = None
+one_less q (suc w) = Some (record { request = q; waits = w })
 
-abbrev pub AnsweredFrom : Option Transfer → Meaning → Result Polled Refusal → Meaning → Type 0
+abbrev pub after_wait : Transfer → Option Transfer
+after_wait t = one_less t.request t.waits
+
+-- Poll: one wait less and no end while there are waits left, else the end of the transfer.
+abbrev pub AnsweredAt : ℕ → Request → Meaning → Result (Option End) Refusal → Meaning → Type 0
+AnsweredAt zero q m r n = (r ≡ Ok (Some (end_of q.direction (m.map q.address)))) × (n ≡ finished q m)
+AnsweredAt (suc w) q m r n = (r ≡ Ok None) × (n ≡ waiting q w m)
+
+abbrev pub AnsweredFrom : Option Transfer → Meaning → Result (Option End) Refusal → Meaning → Type 0
 AnsweredFrom None m r n = Refuses refused.Transfer r m n
 AnsweredFrom (Some t) m r n = AnsweredAt t.waits t.request m r n
 
-abbrev pub Answered : Meaning → Result Polled Refusal → Meaning → Type 0
+abbrev pub Answered : Meaning → Result (Option End) Refusal → Meaning → Type 0
 Answered m r n = AnsweredFrom m.transfer m r n

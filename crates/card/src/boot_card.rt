@@ -3,10 +3,11 @@ ghost use Rattle.std.specs.Prelude.{◌≡◌, None};
 ghost use Rattle.std.proofs.Common.{zero-le};
 ghost use Rattle.card.specs.Bottom.{boot_meaning};
 
+use super::access::finish;
 use super::bottom::has_word;
 use super::card::{Card, Cells};
 use super::cell::{Cell, Origin};
-use super::transfer::{Polled, Request};
+use super::transfer::{End, Request};
 use refusal::Refusal;
 
 #[derive(Drop)]
@@ -60,12 +61,9 @@ impl<'a> Card for BootCard<'a> {
         Ok(0)
     }
 
-    fn poll(&mut self) -> Result<Polled, Refusal> {
-        let Some(request) = self.request.take() else {
-            return Err(Refusal::Transfer);
-        };
-        let cell = self.look(request.address);
-        Ok(Polled::Ended(request.direction.end(cell)))
+    fn poll(&mut self) -> Result<Option<End>, Refusal> {
+        let request = self.request.take().ok_or(Refusal::Transfer)?;
+        Ok(Some(finish(self, request)))
     }
 
     fn cancel(&mut self) {

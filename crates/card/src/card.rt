@@ -3,7 +3,7 @@ ghost use Rattle.std.specs.Prelude.{◌≡◌, ◌≤◌};
 ghost use Rattle.card.specs.Meaning.{Meaning, Placed, Begun, Answered, idle};
 
 use super::cell::Cell;
-use super::transfer::{Polled, Request};
+use super::transfer::{End, Request};
 use refusal::Refusal;
 
 // The cells of a card, which can be looked at and placed at any time, a transfer in being or not.
@@ -33,8 +33,8 @@ pub trait Card: Cells {
         ensures { Begun (Self.Cells.meaning self.old) request
             result (Self.Cells.meaning self.new) };
 
-    // Takes one wait off the transfer, or ends it; refused without one.
-    fn poll(&mut self) -> Result<Polled, Refusal>
+    // Takes one wait off the transfer and answers none, or ends it; refused without one.
+    fn poll(&mut self) -> Result<Option<End>, Refusal>
         ensures { Answered (Self.Cells.meaning self.old) result (Self.Cells.meaning self.new) };
 
     // Makes the transfer none.

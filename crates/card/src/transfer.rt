@@ -1,10 +1,12 @@
 // One transfer between a machine and its card: what is asked, how long it takes, how it ends.
 ghost use Rattle.std.specs.Prelude.{◌≡◌};
 ghost use Rattle.card.specs.Ends.{end_of};
+ghost use Rattle.card.specs.Meaning.{after_wait};
 
-use super::cell::{Cause, Cell, Origin};
+use super::cell::{AccessFault, Cause, Cell};
 
-#[derive(Clone, Copy)]
+// Not an `Option` of the word to write: `None` would not say that it is a read.
+#[derive(Clone, Copy, PartialEq, Eq, Debug)]
 pub enum Direction {
     Read,
     // the word to write
@@ -26,18 +28,7 @@ pub struct Transfer {
 }
 
 // How a transfer ends: with the word read or written, or in a fault.
-#[derive(Clone, Copy)]
-pub enum End {
-    Word(u32),
-    Fault(Cause, Origin),
-}
-
-// The answer of a poll.
-#[derive(Clone, Copy)]
-pub enum Polled {
-    Waiting,
-    Ended(End),
-}
+pub type End = Result<u32, AccessFault>;
 
 impl Direction {
     // How a transfer in this direction ends at a cell.
@@ -45,10 +36,26 @@ impl Direction {
         ensures { result ≡ end_of self cell }
     {
         match (self, cell) {
-            (_, Cell::Absent(origin)) => End::Fault(Cause::Absent, origin),
-            (Direction::Write(_), Cell::Fixed(_, origin)) => End::Fault(Cause::Fixed, origin),
-            (Direction::Write(word), Cell::Open(_)) => End::Word(word),
-            (Direction::Read, Cell::Fixed(word, _) | Cell::Open(word)) => End::Word(word),
+            (_, Cell::Absent(origin)) => Err(AccessFault {
+                cause: Cause::Absent,
+                origin,
+            }),
+            (Direction::Write(_), Cell::Fixed(_, origin)) => Err(AccessFault {
+                cause: Cause::Fixed,
+                origin,
+            }),
+            (Direction::Write(word), Cell::Open(_)) => Ok(word),
+            (Direction::Read, Cell::Fixed(word, _) | Cell::Open(word)) => Ok(word),
         }
+    }
+}
+
+impl Transfer {
+    // The transfer with one wait less; none where it has no waits left, so that it ends now.
+    pub fn after_wait(self) -> Option<Transfer>
+        ensures { result ≡ after_wait self }
+    {
+        let waits = self.waits.checked_sub(1)?;
+        Some(Transfer { waits, ..self })
     }
 }

@@ -8,7 +8,7 @@ ghost use Rattle.card.specs.Bottom.{word_meaning, written, after_poll, Keeps, Le
 use super::bottom::has_word;
 use super::card::{Card, Cells};
 use super::cell::{Cell, Origin};
-use super::transfer::{Direction, Polled, Request};
+use super::transfer::{Direction, End, Request};
 use refusal::Refusal;
 
 #[derive(Drop)]
@@ -72,19 +72,17 @@ impl<'a> Card for WordCard<'a> {
         Ok(0)
     }
 
-    fn poll(&mut self) -> Result<Polled, Refusal>
+    fn poll(&mut self) -> Result<Option<End>, Refusal>
         ensures answered { Answered (word_meaning self.old) result (word_meaning self.new) }
         ensures words { Leaves self.old self.new
             (after_poll self.old.request self.old.words.now) }
     {
-        let Some(request) = self.request.take() else {
-            return Err(Refusal::Transfer);
-        };
+        let request = self.request.take().ok_or(Refusal::Transfer)?;
         let cell = self.look(request.address);
         if let (Direction::Write(word), Cell::Open(_)) = (request.direction, cell) {
             let _ = self.place(request.address, word);
         }
-        Ok(Polled::Ended(request.direction.end(cell)))
+        Ok(Some(request.direction.end(cell)))
     }
 
     fn cancel(&mut self)

@@ -7,9 +7,8 @@ ghost use Rattle.layer.specs.Waits.{ChosenAs, ChosenFrom, Kept};
 ghost use Rattle.layer.specs.Laws.{Laws};
 ghost use Rattle.layer.specs.Shown.{layered, raised};
 
-use super::access::finish;
 use super::kind::Kind;
-use card::{Card, Cell, Cells, Direction, Origin, Polled, Request, Transfer};
+use card::{Card, Cell, Cells, Direction, End, Origin, Request, Transfer, finish};
 use refusal::Refusal;
 
 #[derive(Drop)]
@@ -24,8 +23,8 @@ fn raise(origin: Origin) -> Origin
     ensures { result ≡ raised origin }
 {
     Origin {
-        address: origin.address,
         layer: origin.layer.saturating_add(1),
+        ..origin
     }
 }
 
@@ -78,19 +77,13 @@ impl<C: Card> Card for Layer<C> {
         Ok(waits)
     }
 
-    fn poll(&mut self) -> Result<Polled, Refusal> {
-        let Some(transfer) = self.transfer.take() else {
-            return Err(Refusal::Transfer);
-        };
-        let request = transfer.request;
-        if transfer.waits > 0 {
-            self.transfer = Some(Transfer {
-                request,
-                waits: transfer.waits - 1,
-            });
-            return Ok(Polled::Waiting);
+    fn poll(&mut self) -> Result<Option<End>, Refusal> {
+        let transfer = self.transfer.take().ok_or(Refusal::Transfer)?;
+        self.transfer = transfer.after_wait();
+        if self.transfer.is_some() {
+            return Ok(None);
         }
-        Ok(Polled::Ended(finish(self, request)))
+        Ok(Some(finish(self, transfer.request)))
     }
 
     fn cancel(&mut self) {
@@ -125,19 +118,17 @@ impl<C: Card> Layer<C> {
         let Some(below) = self.kind.address_below(request.address) else {
             return Ok(0);
         };
-        if let (Direction::Write(_), true) = (
-            request.direction,
-            self.kind.guards(request.address),
-        ) {
-            if let Cell::Open(_) = self.below.look(below) {
-                return Ok(0);
-            }
+        if self.kind.guards(request.address)
+            && let Direction::Write(_) = request.direction
+            && let Cell::Open(_) = self.below.look(below)
+        {
+            return Ok(0);
         }
         let added = self.kind.added(self.below.patience());
         self.below.cancel();
         let waits = self.below.begin(Request {
-            direction: request.direction,
             address: below,
+            ..request
         })?;
         self.below.cancel();
         Ok(waits + added)

@@ -1,7 +1,6 @@
 // Layers: cards made of any card below.
 #![tactic(auto)]
 
-mod access;
 pub mod kind;
 pub mod layer;
 

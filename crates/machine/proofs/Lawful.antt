@@ -1,15 +1,11 @@
 -- The laws of one instruction, by what it fetches, its class, and how its transfers end.
-use Rattle.std.proofs.Common.{◌≡◌, ℕ, Bool, true, false, refl, inl, inr, get_or-set_other}
+use Rattle.std.proofs.Common.{◌≡◌, ℕ, Bool, true, false, refl, inl, inr, Ok, Err, get_or-set_other}
 use Rattle.std.proofs.lemmas.Bool.{ne_eqb}
-use Rattle.card.specs.declared.cell.Cause.{Cause}
-use Rattle.card.specs.declared.cell.Cause.TheVariants as cause
+use Rattle.card.specs.declared.cell.AccessFault.{AccessFault}
 use Rattle.card.specs.declared.cell.Cell.{Cell}
 use Rattle.card.specs.declared.cell.Cell.TheVariants.{Absent, Fixed, Open}
-use Rattle.card.specs.declared.cell.Origin.{Origin}
 use Rattle.card.specs.declared.transfer.Direction.TheVariants.{Write}
-use Rattle.card.specs.declared.transfer.End.{End}
-use Rattle.card.specs.declared.transfer.End.TheVariants.{Word, Fault}
-use Rattle.card.specs.Ends.{end_of}
+use Rattle.card.specs.Ends.{End, end_of}
 use Rattle.isa.specs.declared.fields.Instruction.{Instruction}
 use Rattle.isa.specs.declared.opcodes.Class.{Class}
 use Rattle.isa.specs.declared.opcodes.Class.TheVariants.{Arithmetic, ArithmeticQuick, Logical, Load, Store, Branch, BranchIndexed, Unknown}
@@ -37,11 +33,11 @@ untouched : (s : State) → OneRegister s s
 untouched s = (0, λ r h. refl)
 
 module _ (k : Class) (i : Instruction) (s : State) where
-  halt_lawful : (at : Stage) (a : ℕ) (c : Cause) (o : Origin) → Lawful k i s (halt s at a c o)
-  halt_lawful at a c o =
+  halt_lawful : (at : Stage) (a : ℕ) (e : AccessFault) → Lawful k i s (halt s at a e)
+  halt_lawful at a e =
       record {
         confined = inl (untouched s, refl);
-        flags = still k s (halt s at a c o).1 refl;
+        flags = still k s (halt s at a e).1 refl;
         pc = refl;
         fault = (_, refl, refl, refl);
       }
@@ -59,31 +55,31 @@ module _ (k : Class) (i : Instruction) (s : State) where
         fault = refl;
       }
 
-  displaced_lawful : (e : End) (go : ℕ → Step) → ((d : ℕ) → e ≡ Word d → Lawful k i s (go d)) → Lawful k i s (displaced e s go)
-  displaced_lawful (Word d) go h = h d refl
-  displaced_lawful (Fault c o) go h = halt_lawful stage.Displacement (plus s.pc 1) c o
+  displaced_lawful : (e : End) (go : ℕ → Step) → ((d : ℕ) → e ≡ Ok d → Lawful k i s (go d)) → Lawful k i s (displaced e s go)
+  displaced_lawful (Ok d) go h = h d refl
+  displaced_lawful (Err x) go h = halt_lawful stage.Displacement (plus s.pc 1) x
 
   branched_lawful : (b : Bool) (f : Form) (target : ℕ → ℕ) → PcAfter k i s (past f s.pc) →
-      ((d : ℕ) → displacement f i s ≡ Word d → PcAfter k i s (target d)) → Lawful k i s (branched b f i s target)
+      ((d : ℕ) → displacement f i s ≡ Ok d → PcAfter k i s (target d)) → Lawful k i s (branched b f i s target)
   branched_lawful false f target h g = jump_lawful (past f s.pc) h
   branched_lawful true f target h g =
       displaced_lawful (displacement f i s) (λ d. (Done, jump s (target d))) (λ d e. jump_lawful (target d) (g d e))
 
 loaded_lawful : (e : End) (a : ℕ) (f : Form) (i : Instruction) (s : State) → Lawful (Load f) i s (loaded e a f i s)
-loaded_lawful (Word w) a f i s =
+loaded_lawful (Ok w) a f i s =
     record {
       confined = inl ((i.r3, λ r ne. get_or-set_other s.registers i.r3 r w 0 ne), refl);
       flags = refl;
       pc = refl;
       fault = refl;
     }
-loaded_lawful (Fault c o) a f i s = halt_lawful (Load f) i s stage.Load a c o
+loaded_lawful (Err x) a f i s = halt_lawful (Load f) i s stage.Load a x
 
 -- By the cell c at the address a.
 stored_lawful : (c : Cell) (w a : ℕ) (f : Form) (i : Instruction) (s : State) → s.map a ≡ c →
     Lawful (Store f) i s (stored (end_of (Write w) c) (record { direction = Write w; address = a }) f s)
-stored_lawful (Absent o) w a f i s e = halt_lawful (Store f) i s stage.Store a cause.Absent o
-stored_lawful (Fixed v o) w a f i s e = halt_lawful (Store f) i s stage.Store a cause.Fixed o
+stored_lawful (Absent o) w a f i s e = halt_lawful (Store f) i s stage.Store a _
+stored_lawful (Fixed v o) w a f i s e = halt_lawful (Store f) i s stage.Store a _
 stored_lawful (Open v) w a f i s e =
     record { confined = inr ((a, λ b ne. rw (e, ne_eqb b a ne)), refl); flags = refl; pc = refl; fault = refl }
 
@@ -103,8 +99,8 @@ executed_lawful Unknown i s =
     record { confined = inl (untouched s, refl); flags = refl; pc = refl; fault = refl }
 
 fetched_lawful : (e : End) (s : State) → LawfulFrom e s (fetched e s)
-fetched_lawful (Word w) s = executed_lawful _ _ s
-fetched_lawful (Fault c o) s = (refl, (_, refl, refl, refl))
+fetched_lawful (Ok w) s = executed_lawful _ _ s
+fetched_lawful (Err x) s = (refl, (_, refl, refl, refl))
 
 pub lawful : Laws
 lawful s = fetched_lawful _ s

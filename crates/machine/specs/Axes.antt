@@ -1,6 +1,8 @@
 -- The numbers of the axes and of the stages of a fault.
 -- A reader must believe that these are the numbers that power-up takes and a fault line is asked for with.
-use Rattle.std.specs.Prelude.{ℕ, cond, Some, None, Option, ◌==◌}
+use Rattle.std.specs.Prelude.{ℕ, cond, Ok, Err, Result, ◌==◌}
+use Rattle.refusal.specs.declared.Refusal.{Refusal}
+use Rattle.refusal.specs.declared.Refusal.TheVariants as refused
 use Rattle.machine.specs.declared.axis.Axis.{Axis}
 use Rattle.machine.specs.declared.axis.Axis.TheVariants.{One, Two, Three}
 use Rattle.machine.specs.declared.fault.Stage.{Stage}
@@ -11,8 +13,9 @@ axis_number One = 1
 axis_number Two = 2
 axis_number Three = 3
 
-abbrev pub axis_of : ℕ → Option Axis
-axis_of n = cond (n == 1) (Some One) (cond (n == 2) (Some Two) (cond (n == 3) (Some Three) None))
+-- The axis of a number; a number of no axis is refused.
+abbrev pub axis_of : ℕ → Result Axis Refusal
+axis_of n = cond (n == 1) (Ok One) (cond (n == 2) (Ok Two) (cond (n == 3) (Ok Three) (Err refused.Axis)))
 
 abbrev pub stage_number : Stage → ℕ
 stage_number Fetch = 1

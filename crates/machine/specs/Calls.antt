@@ -1,20 +1,21 @@
 -- What the machine's calls do to it and to its card.
 -- A reader must believe: the order of the refusals, and that a refused call leaves machine and card as they were.
 use Rattle.std.specs.Prelude.{◌≡◌, ℕ, Some, None, Ok, Err, Option, Result}
+use Rattle.std.specs.Borrow.{MutBor}
 use Rattle.std.specs.Result.{result_ok}
 use Rattle.refusal.specs.declared.Refusal.{Refusal}
 use Rattle.refusal.specs.declared.Refusal.TheVariants as refused
 use Rattle.card.specs.declared.transfer.Transfer.{Transfer}
-use Rattle.card.specs.declared.transfer.End.{End}
-use Rattle.card.specs.declared.transfer.End.TheVariants.{Word, Fault}
+use Rattle.card.specs.Ends.{End}
 use Rattle.card.specs.Meaning.{Meaning, idle}
 use Rattle.machine.specs.declared.axis.Axis.{Axis}
 use Rattle.machine.specs.declared.fault.Fault.{Fault as Record}
-use Rattle.machine.specs.declared.fault.Stage.TheVariants as stage
+use Rattle.machine.specs.declared.fault.Stage.{Stage}
 use Rattle.machine.specs.declared.machine.Machine.{Machine}
 use Rattle.machine.specs.declared.machine.Outcome.{Outcome}
+use Rattle.machine.specs.declared.machine.Outcome.TheVariants.{Halted}
 use Rattle.machine.specs.Axes.{axis_of}
-use Rattle.machine.specs.State.{State, state_of, powered_up, plus, halted}
+use Rattle.machine.specs.State.{State, state_of, powered_up}
 use Rattle.machine.specs.Step.{Step, answered, step}
 
 -- Power-up: refused unless the axis is 1, 2 or 3.
@@ -22,9 +23,9 @@ abbrev pub PoweredOk : Axis → Meaning → Result Machine Refusal → Meaning �
 PoweredOk a c (Ok m) d = (state_of m d.map ≡ powered_up a c.map) × (d ≡ idle c)
 PoweredOk a c (Err e) d = ⊥
 
-abbrev pub PoweredAs : Option Axis → Meaning → Result Machine Refusal → Meaning → Type 0
-PoweredAs (Some a) c r d = PoweredOk a c r d
-PoweredAs None c r d = (r ≡ Err refused.Axis) × (d ≡ c)
+abbrev pub PoweredAs : Result Axis Refusal → Meaning → Result Machine Refusal → Meaning → Type 0
+PoweredAs (Ok a) c r d = PoweredOk a c r d
+PoweredAs (Err e) c r d = (r ≡ Err e) × (d ≡ c)
 
 abbrev pub PoweredUp : ℕ → Meaning → Result Machine Refusal → Meaning → Type 0
 PoweredUp axis c r d = PoweredAs (axis_of axis) c r d
@@ -36,15 +37,37 @@ pub record Takes (s : Option Outcome × State) (c : Meaning) (r : Result Outcome
   pub transfer : d.transfer ≡ None
   pub patience : d.patience ≡ c.patience
 
--- A part of an instruction, as a step from the machine m on the card c. Used by private functions only, as the next.
-abbrev pub Executes : (State → Step) → Machine → Meaning → Result Outcome Refusal → Machine → Meaning → Type 0
-Executes f m c r n d = Takes (answered (f (state_of m c.map))) c r n d
+-- What a part of an instruction answers and leaves, where a fault is answered and not yet recorded. Used by private
+-- functions only, as all up to `word_of`.
+abbrev pub outcome_of : Result Outcome Record → Outcome
+outcome_of (Ok o) = o
+outcome_of (Err f) = Halted
 
--- The displacement that an instruction goes on with, or none where it halts instead.
-abbrev pub Displaced : End → Machine → Result (Option ℕ) Refusal → Machine → Type 0
-Displaced (Word d) m r n = (r ≡ Ok (Some d)) × (n ≡ m)
-Displaced (Fault cause origin) m r n =
-    (r ≡ Ok None) × (n ≡ halted m stage.Displacement (plus m.pc 1) cause origin)
+abbrev pub recorded : Result Outcome Record → Machine → Machine
+recorded (Ok o) m = m
+recorded (Err f) m =
+    record { axis = m.axis; registers = m.registers; pc = m.pc; flags = m.flags; fault = Some f }
+
+-- A part of an instruction, as a step from the machine m on the card that c lends; d is the same loan afterwards.
+pub record Executes {X : Type 0} (meaning : X → Meaning) (f : State → Step) (m : Machine) (c : MutBor X)
+    (r : Result Outcome Record) (n : Machine) (d : MutBor X) : Type 0 where
+  pub taken : Takes (answered (f (state_of m (meaning c.now).map))) (meaning c.now) (Ok (outcome_of r)) (recorded r n)
+      (meaning d.now)
+  pub lender : d.ghost_name ≡ c.ghost_name
+
+-- The word of an access of the machine, or the fault that the access is at a stage.
+abbrev pub word_of : Machine → Stage → ℕ → End → Result ℕ Record
+word_of m stage access (Ok w) = Ok w
+word_of m stage access (Err f) =
+    Err
+    (record {
+      axis = m.axis;
+      stage = stage;
+      instruction = m.pc;
+      access = access;
+      cause = f.cause;
+      origin = f.origin;
+    })
 
 abbrev pub Refused : Refusal → Machine → Meaning → Result Outcome Refusal → Machine → Meaning → Type 0
 Refused e m c r n d = (r ≡ Err e) × (n ≡ m) × (d ≡ c)

@@ -1,10 +1,8 @@
 -- Laws of one instruction, in the chapter's own terms, above the definition that goes step by step.
 -- A reader must believe: nothing; these are shown of every state, and say what no instruction can do.
-use Rattle.std.specs.Prelude.{◌≡◌, ℕ, ◌⊎◌, ◌≢◌}
+use Rattle.std.specs.Prelude.{◌≡◌, ℕ, ◌⊎◌, Ok, Err, ◌≢◌}
 use Rattle.card.specs.declared.transfer.Direction.TheVariants.{Read}
-use Rattle.card.specs.declared.transfer.End.{End}
-use Rattle.card.specs.declared.transfer.End.TheVariants.{Word, Fault}
-use Rattle.card.specs.Ends.{end_of}
+use Rattle.card.specs.Ends.{End, end_of}
 use Rattle.isa.specs.declared.fields.Instruction.{Instruction}
 use Rattle.isa.specs.declared.opcodes.Class.{Class}
 use Rattle.isa.specs.declared.opcodes.Class.TheVariants.{Arithmetic, ArithmeticQuick, Logical, Load, Store, Branch, BranchIndexed, Unknown}
@@ -41,7 +39,7 @@ FlagsMove Unknown s t = t.flags ≡ s.flags
 
 -- The target of a branch: base plus the displacement that the instruction has.
 abbrev pub Target : Form → Instruction → State → ℕ → ℕ → Type 0
-Target f i s base pc = (d : ℕ) × (displacement f i s ≡ Word d) × (pc ≡ plus base d)
+Target f i s base pc = (d : ℕ) × (displacement f i s ≡ Ok d) × (pc ≡ plus base d)
 
 -- PC of an instruction that is finished: past the whole of it, or the branch's target.
 abbrev pub PcAfter : Class → Instruction → State → ℕ → Type 0
@@ -74,8 +72,8 @@ pub record Lawful (k : Class) (i : Instruction) (s : State) (u : Step) : Type 0 
 
 -- By what was fetched: an instruction, or a fault.
 abbrev pub LawfulFrom : End → State → Step → Type 0
-LawfulFrom (Word w) s u = Lawful (class_of (instruction_of w).opcode) (instruction_of w) s u
-LawfulFrom (Fault cause origin) s u = (u.0 ≡ Halted) × Fails Halted s u.1
+LawfulFrom (Ok w) s u = Lawful (class_of (instruction_of w).opcode) (instruction_of w) s u
+LawfulFrom (Err f) s u = (u.0 ≡ Halted) × Fails Halted s u.1
 
 -- The laws hold of an instruction in every state; `running` is what `step` does where there is no fault.
 abbrev pub Laws : Type 0

@@ -1,14 +1,11 @@
 -- The architectural state of the DP32, the memory that its card shows, and the machine that holds it.
 -- A reader must believe: this is all that an instruction can read or change.
-use Rattle.std.specs.Prelude.{ℕ, ◌+◌, ◌%◌, ◌^◌, false, List, Some, None, Option}
-use Rattle.card.specs.declared.cell.Cause.{Cause}
-use Rattle.card.specs.declared.cell.Origin.{Origin}
+use Rattle.std.specs.Prelude.{ℕ, ◌+◌, ◌%◌, ◌^◌, false, List, None, Option}
 use Rattle.card.specs.Ends.{Map}
 use Rattle.isa.specs.Alu.{Answer}
 use Rattle.isa.specs.declared.flags.Flags.{Flags}
 use Rattle.machine.specs.declared.axis.Axis.{Axis}
 use Rattle.machine.specs.declared.fault.Fault.{Fault}
-use Rattle.machine.specs.declared.fault.Stage.{Stage}
 use Rattle.machine.specs.declared.machine.Machine.{Machine}
 use Rattle.machine.specs.Registers.{cleared, put}
 
@@ -56,7 +53,7 @@ restarted s =
 abbrev pub plus : ℕ → ℕ → ℕ
 plus a b = (a + b) % 2 ^ 32
 
--- A machine that latched an arithmetic or logical answer, and one that halted. Used by private functions only.
+-- A machine that latched an arithmetic or logical answer. Used by private functions only.
 abbrev pub latched : Machine → ℕ → Answer → Machine
 latched m r a =
     record {
@@ -65,14 +62,4 @@ latched m r a =
       pc = plus m.pc 1;
       flags = record { v = a.1; n = a.2; z = a.3 };
       fault = m.fault;
-    }
-
-abbrev pub halted : Machine → Stage → ℕ → Cause → Origin → Machine
-halted m stage access cause origin =
-    record {
-      axis = m.axis;
-      registers = m.registers;
-      pc = m.pc;
-      flags = m.flags;
-      fault = Some (record { axis = m.axis; stage = stage; instruction = m.pc; access = access; cause = cause; origin = origin });
     }

@@ -1,14 +1,11 @@
 -- One instruction, as a step from one state to the next.
 -- A reader must believe: this is what the chapter defines an instruction to do, with the choices that docs/ lists. It goes
 -- by the words that the instruction reads: the instruction at PC, a displacement in the next word, the word at an address.
-use Rattle.std.specs.Prelude.{ℕ, Bool, true, false, Some, None, Option}
-use Rattle.card.specs.declared.cell.Cause.{Cause}
-use Rattle.card.specs.declared.cell.Origin.{Origin}
+use Rattle.std.specs.Prelude.{ℕ, Bool, true, false, Some, None, Ok, Err, Option}
+use Rattle.card.specs.declared.cell.AccessFault.{AccessFault}
 use Rattle.card.specs.declared.transfer.Direction.TheVariants.{Read, Write}
 use Rattle.card.specs.declared.transfer.Request.{Request}
-use Rattle.card.specs.declared.transfer.End.{End}
-use Rattle.card.specs.declared.transfer.End.TheVariants.{Word, Fault}
-use Rattle.card.specs.Ends.{end_of, leaves}
+use Rattle.card.specs.Ends.{End, end_of, leaves}
 use Rattle.isa.specs.declared.fields.Instruction.{Instruction}
 use Rattle.isa.specs.declared.opcodes.Class.{Class}
 use Rattle.isa.specs.declared.opcodes.Class.TheVariants.{Arithmetic, ArithmeticQuick, Logical, Load, Store, Branch, BranchIndexed, Unknown}
@@ -54,8 +51,8 @@ failed s f =
       fault = Some f;
     }
 
-abbrev pub halt : State → Stage → ℕ → Cause → Origin → Step
-halt s stage access cause origin = (
+abbrev pub halt : State → Stage → ℕ → AccessFault → Step
+halt s stage access f = (
   Halted,
   failed s
       (record {
@@ -63,8 +60,8 @@ halt s stage access cause origin = (
         stage = stage;
         instruction = s.pc;
         access = access;
-        cause = cause;
-        origin = origin;
+        cause = f.cause;
+        origin = f.origin;
       }),
 )
 
@@ -92,17 +89,17 @@ latch a i s = (
 
 -- Where the displacement comes from: i8 of the instruction itself, or the next word.
 abbrev pub displacement : Form → Instruction → State → End
-displacement Quick i s = Word (immediate_of i)
+displacement Quick i s = Ok (immediate_of i)
 displacement Long i s = end_of Read (s.map (plus s.pc 1))
 
 -- An instruction goes on with its displacement d, or halts where that cannot be read.
 abbrev pub displaced : End → State → (ℕ → Step) → Step
-displaced (Word d) s go = go d
-displaced (Fault cause origin) s go = halt s stage.Displacement (plus s.pc 1) cause origin
+displaced (Ok d) s go = go d
+displaced (Err f) s go = halt s stage.Displacement (plus s.pc 1) f
 
 -- A load ends with the word at its address in r3.
 abbrev pub loaded : End → ℕ → Form → Instruction → State → Step
-loaded (Word w) a f i s = (
+loaded (Ok w) a f i s = (
   Done,
   record {
     axis = s.axis;
@@ -113,14 +110,14 @@ loaded (Word w) a f i s = (
     fault = s.fault;
   },
 )
-loaded (Fault cause origin) a f i s = halt s stage.Load a cause origin
+loaded (Err e) a f i s = halt s stage.Load a e
 
 -- What a store asks of the card: r3 at r1 plus the displacement.
 abbrev pub store_of : Instruction → State → ℕ → Request
 store_of i s d = record { direction = Write (register s i.r3); address = plus (register s i.r1) d }
 
 abbrev pub stored : End → Request → Form → State → Step
-stored (Word w) q f s = (
+stored (Ok w) q f s = (
   Done,
   record {
     axis = s.axis;
@@ -131,7 +128,7 @@ stored (Word w) q f s = (
     fault = s.fault;
   },
 )
-stored (Fault cause origin) q f s = halt s stage.Store q.address cause origin
+stored (Err e) q f s = halt s stage.Store q.address e
 
 -- A branch that is not taken reads no displacement.
 abbrev pub branched : Bool → Form → Instruction → State → (ℕ → ℕ) → Step
@@ -155,8 +152,8 @@ executed Unknown i s = (Ignored, jump s (past Quick s.pc))
 
 -- An instruction whose word was fetched, or not.
 abbrev pub fetched : End → State → Step
-fetched (Word w) s = executed (class_of (instruction_of w).opcode) (instruction_of w) s
-fetched (Fault cause origin) s = halt s stage.Fetch s.pc cause origin
+fetched (Ok w) s = executed (class_of (instruction_of w).opcode) (instruction_of w) s
+fetched (Err f) s = halt s stage.Fetch s.pc f
 
 abbrev pub running : State → Step
 running s = fetched (end_of Read (s.map s.pc)) s

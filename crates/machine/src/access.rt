@@ -1,7 +1,9 @@
-// One whole transfer of a card.
-ghost use Rattle.machine.specs.Access.{Completed};
+// Whole transfers of a card.
+ghost use Rattle.std.specs.Prelude.{◌≡◌, None};
+ghost use Rattle.card.specs.declared.transfer.Direction.TheVariants.{Write};
+ghost use Rattle.machine.specs.Access.{Completed, Ends, Reads};
 
-use card::{Card, End, Polled, Request};
+use card::{Card, Direction, End, Request};
 use refusal::Refusal;
 
 // Runs a transfer to its end, however long it waits; refused while another is in being.
@@ -11,9 +13,45 @@ pub fn complete<C: Card>(card: &mut C, request: Request) -> Result<End, Refusal>
 {
     card.begin(request)?;
     loop {
-        match card.poll()? {
-            Polled::Waiting => {}
-            Polled::Ended(end) => return Ok(end),
+        if let Some(end) = card.poll()? {
+            return Ok(end);
         }
+    }
+}
+
+// A card that has no transfer in being: so no access to it is refused.
+#[derive(Drop)]
+pub(crate) struct IdleCard<'c, C: Card> {
+    pub(crate) card: &'c mut C,
+    ghost idle: { (C.Cells.meaning card.now).transfer ≡ None },
+}
+
+impl<'c, C: Card> IdleCard<'c, C> {
+    fn access(&mut self, request: Request) -> End
+        ensures { Ends C.Cells.meaning request self.old.card result self.new.card }
+    {
+        match complete(self.card, request) {
+            Ok(end) => end,
+            Err(_) => unreachable!(),
+        }
+    }
+
+    pub(crate) fn read(&mut self, address: u32) -> End
+        ensures { Reads C.Cells.meaning address self.old.card result self.new.card }
+    {
+        self.access(Request {
+            direction: Direction::Read,
+            address,
+        })
+    }
+
+    pub(crate) fn write(&mut self, address: u32, word: u32) -> End
+        ensures { Ends C.Cells.meaning (record { direction = Write word; address = address })
+            self.old.card result self.new.card }
+    {
+        self.access(Request {
+            direction: Direction::Write(word),
+            address,
+        })
     }
 }

@@ -2,6 +2,8 @@
 ghost use Rattle.std.specs.Prelude.{◌≡◌};
 ghost use Rattle.machine.specs.Axes.{axis_of, axis_number};
 
+use refusal::Refusal;
+
 #[derive(Clone, Copy)]
 pub enum Axis {
     One = 1,
@@ -9,22 +11,26 @@ pub enum Axis {
     Three = 3,
 }
 
-impl Axis {
-    // The axis of a number, which has to be 1, 2 or 3.
-    pub fn from_number(number: u32) -> Option<Axis>
-        ensures { result ≡ axis_of number }
-    {
+// The axis of a number, which has to be 1, 2 or 3.
+impl TryFrom<u32> for Axis {
+    type Error = Refusal;
+
+    ghost try_from_gives = { λ number axis. axis ≡ axis_of number };
+
+    fn try_from(number: u32) -> Result<Axis, Refusal> {
         match number {
-            1 => Some(Axis::One),
-            2 => Some(Axis::Two),
-            3 => Some(Axis::Three),
-            _ => None,
+            1 => Ok(Axis::One),
+            2 => Ok(Axis::Two),
+            3 => Ok(Axis::Three),
+            _ => Err(Refusal::Axis),
         }
     }
+}
 
-    pub fn number(self) -> u32
-        ensures { result ≡ axis_number self }
-    {
-        self as u32
+impl From<Axis> for u32 {
+    ghost from_gives = { λ axis n. n ≡ axis_number axis };
+
+    fn from(axis: Axis) -> u32 {
+        axis as u32
     }
 }

@@ -1,23 +1,27 @@
 // One instruction, by the words that it reads: itself, a displacement, the word at an address.
-ghost use Rattle.std.specs.Prelude.{◌≡◌, None};
+// Its parts answer a fault as an error, and only the call as a whole records it: so up to there a fault has changed nothing.
+ghost use Rattle.std.specs.Prelude.{◌≡◌};
+ghost use Rattle.card.specs.Ends.{End, end_of};
+ghost use Rattle.card.specs.declared.transfer.Direction.TheVariants.{Read};
 ghost use Rattle.isa.specs.Opcodes.{class_of};
 ghost use Rattle.isa.specs.declared.opcodes.Class.TheVariants.{Load, Store};
-ghost use Rattle.machine.specs.declared.machine.Outcome.TheVariants.{Halted};
 ghost use Rattle.isa.specs.Branch.{taken_by};
-ghost use Rattle.machine.specs.Calls.{Stepped, Executes, Displaced};
+ghost use Rattle.machine.specs.declared.fault.Stage.TheVariants.{Displacement};
+ghost use Rattle.machine.specs.Calls.{Stepped, Executes, word_of};
 ghost use Rattle.machine.specs.Laws.{Laws};
-ghost use Rattle.machine.specs.State.{state_of, plus, latched, halted};
-ghost use Rattle.machine.specs.Step.{past, displacement, executed, branched};
+ghost use Rattle.machine.specs.State.{state_of, plus, latched};
+ghost use Rattle.machine.specs.Step.{past, displacement, executed, branched, fetched};
 
-use super::access::complete;
+use super::access::{IdleCard, complete};
 use super::fault::{Fault, Stage};
 use super::machine::{Machine, Outcome};
-use card::{Card, Cause, Direction, End, Origin, Request};
+use card::{AccessFault, Card, Direction, End, Request};
 use isa::{Class, Flags, Form, Instruction, decode};
 use refusal::Refusal;
 
 impl Machine {
     // One instruction. Refused, with nothing changed, if the machine has halted or the card has a transfer in being.
+    #[tactic(auto, using(crate::proofs::Lawful::lawful))]
     pub fn instruction<C: Card>(&mut self, card: &mut C) -> Result<Outcome, Refusal>
         ensures laws { Laws }
         ensures stepped { Stepped
@@ -27,28 +31,32 @@ impl Machine {
         if self.fault.is_some() {
             return Err(Refusal::Halted);
         }
-        match complete(
+        let word = complete(
             card,
             Request {
                 direction: Direction::Read,
                 address: self.pc,
             },
-        )? {
-            End::Word(word) => self.execute(card, Instruction::from_word(word)),
-            End::Fault(cause, origin) => Ok(self.halt(Stage::Fetch, self.pc, cause, origin)),
+        )?;
+        match self.execute(&mut IdleCard { card }, word) {
+            Ok(outcome) => Ok(outcome),
+            Err(fault) => {
+                self.fault = Some(fault);
+                Ok(Outcome::Halted)
+            }
         }
     }
 
-    fn execute<C: Card>(
+    // The instruction whose word was fetched, or the fault that it was not.
+    fn execute<'c, C: Card>(
         &mut self,
-        card: &mut C,
-        instruction: Instruction,
-    ) -> Result<Outcome, Refusal>
-        requires { (C.Cells.meaning card.old).transfer ≡ None }
-        ensures { Executes (executed (class_of instruction.opcode) instruction)
-            self.old (C.Cells.meaning card.old)
-            result self.new (C.Cells.meaning card.new) }
+        card: &mut IdleCard<'c, C>,
+        word: End,
+    ) -> Result<Outcome, Fault>
+        ensures { Executes C.Cells.meaning (fetched word)
+            self.old card.old.card result self.new card.new.card }
     {
+        let instruction = Instruction::from_word(self.word_of(Stage::Fetch, self.pc, word)?);
         let first = self.registers.get(instruction.r1);
         match decode(instruction.opcode).class {
             Class::Arithmetic(operation) => {
@@ -86,117 +94,96 @@ impl Machine {
         }
     }
 
-    // The displacement: i8 of the instruction itself, or the next word. None where that cannot be read: it halts.
-    fn displace<C: Card>(
-        &mut self,
-        card: &mut C,
+    // The word of an access, or the fault that the access is.
+    fn word_of(&self, stage: Stage, access: u32, end: End) -> Result<u32, Fault>
+        ensures { result ≡ word_of self.now stage access end }
+    {
+        match end {
+            Ok(word) => Ok(word),
+            Err(AccessFault { cause, origin }) => Err(Fault {
+                axis: self.axis,
+                stage,
+                instruction: self.pc,
+                access,
+                cause,
+                origin,
+            }),
+        }
+    }
+
+    // The displacement: i8 of the instruction itself, or the next word.
+    fn displacement<'c, C: Card>(
+        &self,
+        card: &mut IdleCard<'c, C>,
         form: Form,
         instruction: Instruction,
-    ) -> Result<Option<u32>, Refusal>
-        requires { (C.Cells.meaning card.old).transfer ≡ None }
-        ensures displaced { Displaced
-            (displacement form instruction (state_of self.old (C.Cells.meaning card.old).map))
-            self.old result self.new }
-        ensures same { C.Cells.meaning card.new ≡ C.Cells.meaning card.old }
+    ) -> Result<u32, Fault>
+        ensures displacement { result ≡ word_of self.now Displacement (plus self.now.pc 1)
+            (displacement form instruction (state_of self.now (C.Cells.meaning card.old.card.now).map)) }
+        ensures same { C.Cells.meaning card.new.card.now ≡ C.Cells.meaning card.old.card.now }
+        ensures lender { card.new.card.ghost_name ≡ card.old.card.ghost_name }
     {
-        if let Form::Quick = form {
-            return Ok(Some(instruction.immediate()));
-        }
-        let next = self.pc.wrapping_add(1);
-        match complete(
-            card,
-            Request {
-                direction: Direction::Read,
-                address: next,
-            },
-        )? {
-            End::Word(word) => Ok(Some(word)),
-            End::Fault(cause, origin) => {
-                self.halt(Stage::Displacement, next, cause, origin);
-                Ok(None)
+        match form {
+            Form::Quick => Ok(instruction.immediate()),
+            Form::Long => {
+                let next = self.pc.wrapping_add(1);
+                self.word_of(Stage::Displacement, next, card.read(next))
             }
         }
     }
 
     // Loads r3 from r1 plus the displacement.
-    fn load<C: Card>(
+    fn load<'c, C: Card>(
         &mut self,
-        card: &mut C,
+        card: &mut IdleCard<'c, C>,
         form: Form,
         instruction: Instruction,
-    ) -> Result<Outcome, Refusal>
-        requires { (C.Cells.meaning card.old).transfer ≡ None }
-        ensures { Executes (executed (Load form) instruction)
-            self.old (C.Cells.meaning card.old)
-            result self.new (C.Cells.meaning card.new) }
+    ) -> Result<Outcome, Fault>
+        ensures { Executes C.Cells.meaning (executed (Load form) instruction)
+            self.old card.old.card result self.new card.new.card }
     {
-        let Some(offset) = self.displace(card, form, instruction)? else {
-            return Ok(Outcome::Halted);
-        };
+        let offset = self.displacement(card, form, instruction)?;
         let address = self.registers.get(instruction.r1).wrapping_add(offset);
-        match complete(
-            card,
-            Request {
-                direction: Direction::Read,
-                address,
-            },
-        )? {
-            End::Word(word) => {
-                self.registers.store(instruction.r3, word);
-                self.pc = self.past(form);
-                Ok(Outcome::Done)
-            }
-            End::Fault(cause, origin) => Ok(self.halt(Stage::Load, address, cause, origin)),
-        }
+        let word = self.word_of(Stage::Load, address, card.read(address))?;
+        self.registers.store(instruction.r3, word);
+        self.pc = self.past(form);
+        Ok(Outcome::Done)
     }
 
     // Stores r3 at r1 plus the displacement.
-    fn store<C: Card>(
+    fn store<'c, C: Card>(
         &mut self,
-        card: &mut C,
+        card: &mut IdleCard<'c, C>,
         form: Form,
         instruction: Instruction,
-    ) -> Result<Outcome, Refusal>
-        requires { (C.Cells.meaning card.old).transfer ≡ None }
-        ensures { Executes (executed (Store form) instruction)
-            self.old (C.Cells.meaning card.old)
-            result self.new (C.Cells.meaning card.new) }
+    ) -> Result<Outcome, Fault>
+        ensures { Executes C.Cells.meaning (executed (Store form) instruction)
+            self.old card.old.card result self.new card.new.card }
     {
-        let Some(offset) = self.displace(card, form, instruction)? else {
-            return Ok(Outcome::Halted);
-        };
+        let offset = self.displacement(card, form, instruction)?;
         let address = self.registers.get(instruction.r1).wrapping_add(offset);
-        let direction = Direction::Write(self.registers.get(instruction.r3));
-        match complete(card, Request { direction, address })? {
-            End::Word(_) => {
-                self.pc = self.past(form);
-                Ok(Outcome::Done)
-            }
-            End::Fault(cause, origin) => Ok(self.halt(Stage::Store, address, cause, origin)),
-        }
+        let word = self.registers.get(instruction.r3);
+        self.word_of(Stage::Store, address, card.write(address, word))?;
+        self.pc = self.past(form);
+        Ok(Outcome::Done)
     }
 
     // A branch to base plus displacement, or to the word after the instruction.
-    fn branch<C: Card>(
+    fn branch<'c, C: Card>(
         &mut self,
-        card: &mut C,
+        card: &mut IdleCard<'c, C>,
         form: Form,
         instruction: Instruction,
         base: u32,
-    ) -> Result<Outcome, Refusal>
-        requires { (C.Cells.meaning card.old).transfer ≡ None }
-        ensures { Executes (λ s. branched (taken_by instruction.mask s.flags) form instruction s (plus base))
-            self.old (C.Cells.meaning card.old)
-            result self.new (C.Cells.meaning card.new) }
+    ) -> Result<Outcome, Fault>
+        ensures { Executes C.Cells.meaning (λ s. branched (taken_by instruction.mask s.flags) form instruction s (plus base))
+            self.old card.old.card result self.new card.new.card }
     {
-        if !instruction.mask.taken(self.flags) {
-            self.pc = self.past(form);
-            return Ok(Outcome::Done);
-        }
-        let Some(offset) = self.displace(card, form, instruction)? else {
-            return Ok(Outcome::Halted);
+        self.pc = if instruction.mask.taken(self.flags) {
+            base.wrapping_add(self.displacement(card, form, instruction)?)
+        } else {
+            self.past(form)
         };
-        self.pc = base.wrapping_add(offset);
         Ok(Outcome::Done)
     }
 
@@ -208,21 +195,5 @@ impl Machine {
         self.registers.store(instruction.r3, word);
         self.flags = Flags { v, n, z };
         self.pc = self.past(Form::Quick);
-    }
-
-    // Halts with PC still at the instruction.
-    fn halt(&mut self, stage: Stage, access: u32, cause: Cause, origin: Origin) -> Outcome
-        ensures answer { result ≡ Halted }
-        ensures after { self.new ≡ halted self.old stage access cause origin }
-    {
-        self.fault = Some(Fault {
-            axis: self.axis,
-            stage,
-            instruction: self.pc,
-            access,
-            cause,
-            origin,
-        });
-        Outcome::Halted
     }
 }

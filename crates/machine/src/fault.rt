@@ -26,11 +26,11 @@ pub struct Fault {
     pub origin: Origin,
 }
 
-impl Stage {
-    // The number that the stage has in a fault line's fields.
-    pub fn number(self) -> u32
-        ensures { result ≡ stage_number self }
-    {
-        self as u32
+// The number that the stage has in a fault line's fields.
+impl From<Stage> for u32 {
+    ghost from_gives = { λ stage n. n ≡ stage_number stage };
+
+    fn from(stage: Stage) -> u32 {
+        stage as u32
     }
 }

@@ -37,9 +37,7 @@ impl Machine {
         ensures { PoweredUp axis (C.Cells.meaning card.old)
             result (C.Cells.meaning card.new) }
     {
-        let Some(axis) = Axis::from_number(axis) else {
-            return Err(Refusal::Axis);
-        };
+        let axis = Axis::try_from(axis)?;
         card.cancel();
         let flags = Flags {
             v: false,

@@ -3,10 +3,12 @@ ghost use Rattle.std.specs.Prelude.{◌≡◌};
 ghost use Rattle.card.specs.Ends.{end_of, leaves};
 ghost use Rattle.card.specs.Meaning.{mapped};
 
-use card::{Cell, Cells, Direction, End, Request};
+use super::card::Cells;
+use super::cell::Cell;
+use super::transfer::{Direction, End, Request};
 
 // Carries a request out on the cells.
-pub(crate) fn finish<C: Cells>(cells: &mut C, request: Request) -> End
+pub fn finish<C: Cells>(cells: &mut C, request: Request) -> End
     ensures answer { result ≡ end_of request.direction ((C.Cells.meaning cells.old).map request.address) }
     ensures after { C.Cells.meaning cells.new
         ≡ mapped (leaves request (C.Cells.meaning cells.old).map) (C.Cells.meaning cells.old) }
