@@ -1,18 +1,19 @@
 -- The meaning of the two bottom cards, which lie over lent words.
 -- A reader must believe: address n has a cell if word n is there and n is below 65,536, and is absent otherwise, with
 -- the card itself as origin. The word card's cells are open, the boot card's fixed. No transfer has a wait.
-use Rattle.std.specs.Prelude.{◌≡◌, ℕ, Bool, cond, ◌&&◌, List, length, Some, None, Option, nat_lt, slice_index, slice_set}
+use Rattle.std.specs.Prelude.{◌≡◌, ℕ, Bool, cond, ◌&&◌, List, length, Some, None, Ok, Err, Option, Result, nat_lt, slice_index, slice_set}
 use Rattle.std.specs.Borrow.{MutBor}
 use Rattle.std.specs.Option as options
-use Rattle.card.specs.declared.boot_card.BootCard.{BootCard}
+use Rattle.refusal.specs.declared.Refusal.{Refusal}
+use Rattle.refusal.specs.declared.Refusal.TheVariants as refused
+use Rattle.card.specs.declared.cell.Cell.{Cell}
 use Rattle.card.specs.declared.cell.Cell.TheVariants.{Absent, Fixed, Open}
 use Rattle.card.specs.declared.cell.Origin.{Origin}
 use Rattle.card.specs.declared.transfer.Direction.{Direction}
 use Rattle.card.specs.declared.transfer.Direction.TheVariants.{Read, Write}
 use Rattle.card.specs.declared.transfer.Request.{Request}
 use Rattle.card.specs.declared.transfer.Transfer.{Transfer}
-use Rattle.card.specs.declared.word_card.WordCard.{WordCard}
-use Rattle.card.specs.Ends.{Map}
+use Rattle.card.specs.Ends.{Map, stored}
 use Rattle.card.specs.Meaning.{Meaning}
 
 -- The origin of a refusal by the card itself.
@@ -43,26 +44,29 @@ bottom f q = record { map = f; transfer = options.option_map unwaited q; patienc
 abbrev pub written : List ℕ → ℕ → ℕ → List ℕ
 written ws a w = cond (has ws a) (slice_set ws a w) ws
 
-abbrev pub after_request : Direction → ℕ → List ℕ → List ℕ
-after_request Read a ws = ws
-after_request (Write w) a ws = written ws a w
-
--- The words after the request in being, if any, has ended.
-abbrev pub after_poll : Option Request → List ℕ → List ℕ
-after_poll None ws = ws
-after_poll (Some q) ws = after_request q.direction q.address ws
-
--- A card that keeps the words that it was lent, and leaves these in them.
+-- A loan that is the same afterwards, and leaves these words.
 pub record Keeps (before after : MutBor (List ℕ)) (words : List ℕ) : Type 0 where
   pub lender : after.ghost_name ≡ before.ghost_name
   pub holds : after.now ≡ words
 
-abbrev pub word_meaning : WordCard → Meaning
-word_meaning c = bottom (open_cells c.words.now) c.request
+-- Words that are lent for writing, after w was stored at the address a.
+abbrev pub Written : MutBor (List ℕ) → ℕ → ℕ → MutBor (List ℕ) → Type 0
+Written before a w after = Keeps before after (written before.now a w)
 
-abbrev pub boot_meaning : BootCard → Meaning
-boot_meaning c = bottom (fixed_cells c.words.now) c.request
+-- Storing a word in an open cell of a map; refused elsewhere.
+abbrev pub StoredAt : Cell → Map → ℕ → ℕ → Result (Unit {0}) Refusal → Map → Type 0
+StoredAt (Absent o) f a w r g = (r ≡ Err refused.NotOpen) × (g ≡ f)
+StoredAt (Fixed v o) f a w r g = (r ≡ Err refused.NotOpen) × (g ≡ f)
+StoredAt (Open v) f a w r g = (r ≡ Ok tt) × (g ≡ stored f a w)
 
--- A call of a word card keeps the words that it was lent, and leaves these in them.
-abbrev pub Leaves : WordCard → WordCard → List ℕ → Type 0
-Leaves before after words = Keeps before.words after.words words
+abbrev pub Stored : Map → ℕ → ℕ → Result (Unit {0}) Refusal → Map → Type 0
+Stored f a w r g = StoredAt (f a) f a w r g
+
+-- A memory after the request in being, if any, has ended, by what storing a word leaves of it.
+abbrev pub AfterRequest : {X : Type 0} → (X → ℕ → ℕ → X → Type 0) → Direction → ℕ → X → X → Type 0
+AfterRequest Rewritten Read a before after = after ≡ before
+AfterRequest Rewritten (Write w) a before after = Rewritten before a w after
+
+abbrev pub After : {X : Type 0} → (X → ℕ → ℕ → X → Type 0) → Option Request → X → X → Type 0
+After Rewritten None before after = after ≡ before
+After Rewritten (Some q) before after = AfterRequest Rewritten q.direction q.address before after

@@ -1,10 +1,158 @@
-// What the two bottom cards share: which addresses have a word.
-ghost use Rattle.std.specs.Prelude.{◌≡◌};
-ghost use Rattle.card.specs.Bottom.{addressed};
+// Cards over lent words, whose transfers never wait. What the words are lent for makes the difference: words lent for writing
+// are open cells, words lent for reading are fixed ones.
+// Beside the interface's own clause, each call says what the memory is then: so the lent words hold what was stored in them.
+ghost use Rattle.std.specs.Prelude.{◌≡◌, ◌≤◌, ℕ, None};
+ghost use Rattle.std.proofs.Common.{zero-le};
+ghost use Rattle.card.specs.Ends.{Map};
+ghost use Rattle.card.specs.Meaning.{Placed, Begun, Answered, idle};
+ghost use Rattle.card.specs.Bottom.{addressed, open_cells, fixed_cells, bottom, Stored, After, Written};
+
+use super::card::{Card, Cells};
+use super::cell::{Cell, Origin};
+use super::transfer::{Direction, End, Request};
+use refusal::Refusal;
 
 // Whether a card over so many words has one at the address.
-pub(crate) fn has_word(count: usize, address: u32) -> bool
+fn has_word(count: usize, address: u32) -> bool
     ensures { result ≡ addressed count address }
 {
     (address as usize) < count && address < 65_536
+}
+
+// Words as the cells of a card.
+pub trait Memory {
+    ghost cells: { Self → Map };
+
+    // What is left of a memory after a word was stored at an address.
+    ghost Rewritten: { Self → ℕ → ℕ → Self → Type 0 };
+
+    fn cell(&self, address: u32) -> Cell
+        ensures { result ≡ cells self.now address };
+
+    // Stores a word in an open cell; refused elsewhere.
+    fn store(&mut self, address: u32, word: u32) -> Result<(), Refusal>
+        ensures cells { Stored (cells self.old) address word result (cells self.new) }
+        ensures rewritten { Rewritten self.old address word self.new };
+}
+
+impl<'a> Memory for &'a mut [u32] {
+    ghost cells = { λ m. open_cells m.now };
+
+    ghost Rewritten = { Written };
+
+    fn cell(&self, address: u32) -> Cell {
+        if has_word(self.len(), address) {
+            Cell::Open(self[address as usize])
+        } else {
+            Cell::Absent(Origin { address, layer: 0 })
+        }
+    }
+
+    fn store(&mut self, address: u32, word: u32) -> Result<(), Refusal> {
+        if !has_word(self.len(), address) {
+            return Err(Refusal::NotOpen);
+        }
+        self[address as usize] = word;
+        Ok(())
+    }
+}
+
+impl<'a> Memory for &'a [u32] {
+    ghost cells = { λ m. fixed_cells m.now };
+
+    ghost Rewritten = { λ before address word after. after ≡ before };
+
+    fn cell(&self, address: u32) -> Cell {
+        let origin = Origin { address, layer: 0 };
+        if has_word(self.len(), address) {
+            Cell::Fixed(self[address as usize], origin)
+        } else {
+            Cell::Absent(origin)
+        }
+    }
+
+    fn store(&mut self, _address: u32, _word: u32) -> Result<(), Refusal> {
+        Err(Refusal::NotOpen)
+    }
+}
+
+#[derive(Drop)]
+pub struct BottomCard<M> {
+    memory: M,
+    request: Option<Request>,
+}
+
+// The word card lies over words that are lent for writing, the boot card over words that are lent for reading.
+pub type WordCard<'a> = BottomCard<&'a mut [u32]>;
+
+pub type BootCard<'a> = BottomCard<&'a [u32]>;
+
+impl<M> BottomCard<M> {
+    // A card over the words, without a transfer. Words past the first 65,536 have no address.
+    pub fn new(memory: M) -> BottomCard<M>
+        ensures memory { result.memory ≡ memory }
+        ensures idle { result.request ≡ None }
+    {
+        BottomCard {
+            memory,
+            request: None,
+        }
+    }
+}
+
+impl<M: Memory> Cells for BottomCard<M> {
+    ghost meaning = { λ c. bottom (M.cells c.memory) c.request };
+
+    ghost bounded = { λ _. zero-le };
+
+    fn look(&self, address: u32) -> Cell {
+        self.memory.cell(address)
+    }
+
+    fn patience(&self) -> u16 {
+        0
+    }
+
+    fn place(&mut self, address: u32, word: u32) -> Result<(), Refusal>
+        ensures cells { Placed (bottom (M.cells self.old.memory) self.old.request) address word
+            result (bottom (M.cells self.new.memory) self.new.request) }
+        ensures memory { M.Rewritten self.old.memory address word self.new.memory }
+    {
+        self.memory.store(address, word)
+    }
+}
+
+impl<M: Memory> Card for BottomCard<M> {
+    fn begin(&mut self, request: Request) -> Result<u16, Refusal>
+        ensures begun { Begun (bottom (M.cells self.old.memory) self.old.request) request
+            result (bottom (M.cells self.new.memory) self.new.request) }
+        ensures memory { self.new.memory ≡ self.old.memory }
+    {
+        if self.request.is_some() {
+            return Err(Refusal::Transfer);
+        }
+        self.request = Some(request);
+        Ok(0)
+    }
+
+    fn poll(&mut self) -> Result<Option<End>, Refusal>
+        ensures answered { Answered (bottom (M.cells self.old.memory) self.old.request)
+            result (bottom (M.cells self.new.memory) self.new.request) }
+        ensures memory { After M.Rewritten self.old.request self.old.memory self.new.memory }
+    {
+        let request = self.request.take().ok_or(Refusal::Transfer)?;
+        let cell = self.memory.cell(request.address);
+        if let Direction::Write(word) = request.direction {
+            let _ = self.memory.store(request.address, word);
+        }
+        Ok(Some(request.direction.end(cell)))
+    }
+
+    fn cancel(&mut self)
+        ensures cancelled { bottom (M.cells self.new.memory) self.new.request
+            ≡ idle (bottom (M.cells self.old.memory) self.old.request) }
+        ensures memory { self.new.memory ≡ self.old.memory }
+    {
+        self.request = None;
+    }
 }
