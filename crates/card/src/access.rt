@@ -4,7 +4,6 @@ ghost use Rattle.card.specs.Ends.{end_of, leaves};
 ghost use Rattle.card.specs.Meaning.{mapped};
 
 use super::card::Cells;
-use super::cell::Cell;
 use super::transfer::{Direction, End, Request};
 
 // Carries a request out on the cells.
@@ -13,9 +12,10 @@ pub fn finish<C: Cells>(cells: &mut C, request: Request) -> End
     ensures after { C.Cells.meaning cells.new
         ≡ mapped (leaves request (C.Cells.meaning cells.old).map) (C.Cells.meaning cells.old) }
 {
-    let cell = cells.look(request.address);
-    if let (Direction::Write(word), Cell::Open(_)) = (request.direction, cell) {
+    let end = request.direction.end(cells.look(request.address));
+    if let Direction::Write(word) = request.direction {
+        // refused where the cell is not open, and then nothing changes
         let _ = cells.place(request.address, word);
     }
-    request.direction.end(cell)
+    end
 }

@@ -141,11 +141,12 @@ impl<M: Memory> Card for BottomCard<M> {
         ensures memory { After M.Rewritten self.old.request self.old.memory self.new.memory }
     {
         let request = self.request.take().ok_or(Refusal::Transfer)?;
-        let cell = self.memory.cell(request.address);
+        let end = request.direction.end(self.memory.cell(request.address));
         if let Direction::Write(word) = request.direction {
+            // refused where the cell is not open, and then nothing changes
             let _ = self.memory.store(request.address, word);
         }
-        Ok(Some(request.direction.end(cell)))
+        Ok(Some(end))
     }
 
     fn cancel(&mut self)
