@@ -101,17 +101,18 @@ fn quotient(a: i32, b: i32) -> i64
     i64::from(a) / i64::from(b)
 }
 
-// The low 32 bits.
+// The low 32 bits, as a remainder, since a cast is proved to lose none.
 fn low_word(exact: i64) -> u32
     ensures { result ≡ word_of exact }
 {
     exact.rem_euclid(0x1_0000_0000) as u32
 }
 
+// Whether it is out of the range of a signed word.
 fn overflows(exact: i64) -> bool
     ensures { result ≡ not (in_range exact) }
 {
-    !(LEAST..=GREATEST).contains(&exact)
+    i32::try_from(exact).is_err()
 }
 
 // A word with its V, and the N and Z that it has.
