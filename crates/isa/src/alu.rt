@@ -1,13 +1,14 @@
-// Arithmetic and logic. Each operation answers the word and the flags V, N, Z.
+// Arithmetic and logic.
 ghost use Rattle.std.specs.Prelude.{◌≡◌, not, pos, ◌*ℤ◌, ◌≢◌, int_div};
 ghost use Rattle.isa.specs.Words.{word_of, in_range};
-ghost use Rattle.isa.specs.Alu.{answer, keeping, alu_of, logic_of};
-ghost use Rattle.isa.specs.declared.alu.Arithmetic.TheVariants.{Add, Sub, Mul, Div};
-ghost use Rattle.isa.specs.declared.alu.Logical.TheVariants.{And, Or, Xor, Mask};
+ghost use Rattle.isa.specs.Alu.{answer, wrapping, clamping, dividing, alu_of, logic_of};
 
 use crate::flags::Flags;
 
-#[derive(Clone, Copy)]
+// The word and the flags V, N, Z. It is a tuple by a rule of the project.
+pub type Answer = (u32, bool, bool, bool);
+
+#[derive(Clone, Copy, PartialEq, Eq, Debug)]
 pub enum Arithmetic {
     Add,
     Sub,
@@ -15,7 +16,7 @@ pub enum Arithmetic {
     Div,
 }
 
-#[derive(Clone, Copy)]
+#[derive(Clone, Copy, PartialEq, Eq, Debug)]
 pub enum Logical {
     And,
     Or,
@@ -24,36 +25,72 @@ pub enum Logical {
     Mask,
 }
 
+impl Arithmetic {
+    pub fn apply(self, a: u32, b: u32) -> Answer
+        ensures { result ≡ alu_of self a b }
+    {
+        let (a, b) = (a.cast_signed(), b.cast_signed());
+        match self {
+            Arithmetic::Add => wrapping(i64::from(a) + i64::from(b)),
+            Arithmetic::Sub => wrapping(i64::from(a) - i64::from(b)),
+            Arithmetic::Mul => clamping(product(a, b)),
+            Arithmetic::Div => dividing(a, b),
+        }
+    }
+}
+
+impl Logical {
+    // V and N stay as they were, and Z is by the word.
+    pub fn apply(self, a: u32, b: u32, flags: Flags) -> Answer
+        ensures { result ≡ logic_of self a b flags }
+    {
+        let word = match self {
+            Logical::And => a & b,
+            Logical::Or => a | b,
+            Logical::Xor => a ^ b,
+            Logical::Mask => a & !b,
+        };
+        (word, flags.v, flags.n, word == 0)
+    }
+}
+
 // The range of a signed word.
-const LEAST: i64 = -0x8000_0000;
+const LEAST: i64 = i32::MIN as i64;
 
-const GREATEST: i64 = 0x7fff_ffff;
+const GREATEST: i64 = i32::MAX as i64;
 
-// The low 32 bits.
-fn low_word(exact: i64) -> u32
-    ensures { result ≡ word_of exact }
+// The low 32 bits of an exact result; V if it is out of range.
+fn wrapping(exact: i64) -> Answer
+    ensures { result ≡ wrapping exact }
 {
-    exact.rem_euclid(0x1_0000_0000) as u32
+    flagged(low_word(exact), overflows(exact))
 }
 
-fn overflows(exact: i64) -> bool
-    ensures { result ≡ not (in_range exact) }
+// An exact result, or the nearer end of the range with V set.
+fn clamping(exact: i64) -> Answer
+    ensures { result ≡ clamping exact }
 {
-    exact < LEAST || GREATEST < exact
+    flagged(low_word(exact.clamp(LEAST, GREATEST)), overflows(exact))
 }
 
-// A word with its V, and the N and Z that it has.
-fn flagged(word: u32, v: bool) -> (u32, bool, bool, bool)
-    ensures { result ≡ answer word v }
+// The quotient rounded toward zero, its low 32 bits; by zero the end of the range on the dividend's side, with V set.
+fn dividing(a: i32, b: i32) -> Answer
+    ensures { result ≡ dividing a b }
 {
-    (word, v, word >= 0x8000_0000, word == 0)
+    if b != 0 {
+        flagged(low_word(quotient(a, b)), false)
+    } else {
+        let end = if a < 0 { i32::MIN } else { i32::MAX };
+        flagged(end.cast_unsigned(), true)
+    }
 }
 
-// The exact product, which always fits.
+// The exact product, which always fits. It and the quotient are functions of their own, since within their callers the
+// proof does not close.
 fn product(a: i32, b: i32) -> i64
     ensures { result ≡ a *ℤ b }
 {
-    a as i64 * b as i64
+    i64::from(a) * i64::from(b)
 }
 
 // The quotient rounded toward zero. Of the least number by −1 it is one past the greatest.
@@ -61,102 +98,26 @@ fn quotient(a: i32, b: i32) -> i64
     requires { b ≢ pos 0 }
     ensures { result ≡ int_div a b }
 {
-    a as i64 / b as i64
+    i64::from(a) / i64::from(b)
 }
 
-// The sum's low 32 bits; V if the exact sum is out of range.
-pub fn add(a: u32, b: u32) -> (u32, bool, bool, bool)
-    ensures { result ≡ alu_of Add a b }
+// The low 32 bits, as a remainder, since a cast is proved to lose none.
+fn low_word(exact: i64) -> u32
+    ensures { result ≡ word_of exact }
 {
-    let exact = i64::from(a.cast_signed()) + i64::from(b.cast_signed());
-    flagged(low_word(exact), overflows(exact))
+    exact.rem_euclid(0x1_0000_0000) as u32
 }
 
-// The difference's low 32 bits; V if the exact difference is out of range.
-pub fn sub(a: u32, b: u32) -> (u32, bool, bool, bool)
-    ensures { result ≡ alu_of Sub a b }
+// Whether it is out of the range of a signed word.
+fn overflows(exact: i64) -> bool
+    ensures { result ≡ not (in_range exact) }
 {
-    let exact = i64::from(a.cast_signed()) - i64::from(b.cast_signed());
-    flagged(low_word(exact), overflows(exact))
+    i32::try_from(exact).is_err()
 }
 
-// The exact product, or the nearer end of the range with V set.
-pub fn mul(a: u32, b: u32) -> (u32, bool, bool, bool)
-    ensures { result ≡ alu_of Mul a b }
+// A word with its V, and the N and Z that it has.
+fn flagged(word: u32, v: bool) -> Answer
+    ensures { result ≡ answer word v }
 {
-    let exact = product(a.cast_signed(), b.cast_signed());
-    flagged(low_word(exact.clamp(LEAST, GREATEST)), overflows(exact))
-}
-
-// The quotient rounded toward zero, its low 32 bits; by zero the end of the range on the dividend's side, with V set.
-pub fn div(a: u32, b: u32) -> (u32, bool, bool, bool)
-    ensures { result ≡ alu_of Div a b }
-{
-    let dividend = a.cast_signed();
-    let divisor = b.cast_signed();
-    if divisor != 0 {
-        flagged(low_word(quotient(dividend, divisor)), false)
-    } else if dividend < 0 {
-        flagged(0x8000_0000, true)
-    } else {
-        flagged(0x7fff_ffff, true)
-    }
-}
-
-impl Arithmetic {
-    pub fn apply(self, a: u32, b: u32) -> (u32, bool, bool, bool)
-        ensures { result ≡ alu_of self a b }
-    {
-        match self {
-            Arithmetic::Add => add(a, b),
-            Arithmetic::Sub => sub(a, b),
-            Arithmetic::Mul => mul(a, b),
-            Arithmetic::Div => div(a, b),
-        }
-    }
-}
-
-// A logical instruction's word with the flags after it: V and N as before, and Z by the word.
-fn keeping_flags(flags: Flags, word: u32) -> (u32, bool, bool, bool)
-    ensures { result ≡ keeping flags word }
-{
-    (word, flags.v, flags.n, word == 0)
-}
-
-pub fn land(a: u32, b: u32, flags: Flags) -> (u32, bool, bool, bool)
-    ensures { result ≡ logic_of And a b flags }
-{
-    keeping_flags(flags, a & b)
-}
-
-pub fn lor(a: u32, b: u32, flags: Flags) -> (u32, bool, bool, bool)
-    ensures { result ≡ logic_of Or a b flags }
-{
-    keeping_flags(flags, a | b)
-}
-
-pub fn lxor(a: u32, b: u32, flags: Flags) -> (u32, bool, bool, bool)
-    ensures { result ≡ logic_of Xor a b flags }
-{
-    keeping_flags(flags, a ^ b)
-}
-
-// The first operand and not the second.
-pub fn lmask(a: u32, b: u32, flags: Flags) -> (u32, bool, bool, bool)
-    ensures { result ≡ logic_of Mask a b flags }
-{
-    keeping_flags(flags, a & !b)
-}
-
-impl Logical {
-    pub fn apply(self, a: u32, b: u32, flags: Flags) -> (u32, bool, bool, bool)
-        ensures { result ≡ logic_of self a b flags }
-    {
-        match self {
-            Logical::And => land(a, b, flags),
-            Logical::Or => lor(a, b, flags),
-            Logical::Xor => lxor(a, b, flags),
-            Logical::Mask => lmask(a, b, flags),
-        }
-    }
+    (word, v, word >= 0x8000_0000, word == 0)
 }

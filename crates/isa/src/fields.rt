@@ -3,7 +3,7 @@ ghost use Rattle.std.specs.Prelude.{◌≡◌};
 ghost use Rattle.isa.specs.Fields.{instruction_of, immediate_of, mask_of};
 
 // What a branch asks of the flags that are named here: that some of them is set, or with i clear that none is.
-#[derive(Clone, Copy)]
+#[derive(Clone, Copy, PartialEq, Eq, Debug)]
 pub struct Mask {
     pub i: bool,
     pub v: bool,
@@ -12,7 +12,7 @@ pub struct Mask {
 }
 
 // Every field that some instruction reads; which of them count is the opcode's.
-#[derive(Clone, Copy)]
+#[derive(Clone, Copy, PartialEq, Eq, Debug)]
 pub struct Instruction {
     pub opcode: u8,
     pub r3: u8,
@@ -22,37 +22,42 @@ pub struct Instruction {
     pub mask: Mask,
 }
 
-impl Instruction {
-    // The instruction in a word.
-    pub fn from_word(word: u32) -> Instruction
-        ensures { result ≡ instruction_of word }
-    {
+// The instruction in a word.
+impl From<u32> for Instruction {
+    ghost from_gives = { λ word instruction. instruction ≡ instruction_of word };
+
+    fn from(word: u32) -> Instruction {
         let [opcode, r3, r1, r2] = word.to_be_bytes();
         Instruction {
             opcode,
             r3,
             r1,
             r2,
-            mask: mask_of(word),
+            mask: Mask::from(word),
         }
     }
+}
 
+// The branch mask in an instruction's word, in bits 19 to 16.
+impl From<u32> for Mask {
+    ghost from_gives = { λ word mask. mask ≡ mask_of word };
+
+    fn from(word: u32) -> Mask {
+        let bit = |n: u32| (word >> n) % 2 == 1;
+        Mask {
+            i: bit(19),
+            v: bit(18),
+            n: bit(17),
+            z: bit(16),
+        }
+    }
+}
+
+impl Instruction {
     // The signed number i8 as a word.
     pub fn immediate(self) -> u32
         ensures { result ≡ immediate_of self }
     {
         i32::from(self.r2.cast_signed()).cast_unsigned()
-    }
-}
-
-// The branch mask in bits 19 to 16.
-fn mask_of(word: u32) -> Mask
-    ensures { result ≡ mask_of word }
-{
-    Mask {
-        i: (word >> 19) % 2 == 1,
-        v: (word >> 18) % 2 == 1,
-        n: (word >> 17) % 2 == 1,
-        z: (word >> 16) % 2 == 1,
     }
 }

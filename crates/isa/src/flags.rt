@@ -5,7 +5,7 @@ ghost use Rattle.isa.specs.Branch.{taken_by};
 use crate::fields::Mask;
 
 // Overflow, negative, zero.
-#[derive(Clone, Copy, PartialEq, Eq, Debug)]
+#[derive(Clone, Copy, PartialEq, Eq, Debug, Default)]
 pub struct Flags {
     pub v: bool,
     pub n: bool,

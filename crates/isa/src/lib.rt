@@ -7,7 +7,7 @@ pub mod flags;
 pub mod opcodes;
 mod table;
 
-pub use alu::{Arithmetic, Logical, add, div, land, lmask, lor, lxor, mul, sub};
+pub use alu::{Answer, Arithmetic, Logical};
 pub use fields::{Instruction, Mask};
 pub use flags::Flags;
 pub use opcodes::{Class, Entry, Form, decode};

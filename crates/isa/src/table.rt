@@ -1,4 +1,5 @@
-// The decode table, an entry for each of the 256 opcodes. Each row of it is named by its mnemonic.
+// The decode table, an entry for each of the 256 opcodes: a constant by a rule of the project. Each row is named by its
+// mnemonic, and written as a literal, since the value of a constant may call no function.
 ghost use Rattle.std.specs.Prelude.{◌≡◌, map};
 ghost use Rattle.std.specs.List.{range_with_len};
 ghost use Rattle.isa.specs.Opcodes.{entry_of};
@@ -7,6 +8,7 @@ use crate::alu::{Arithmetic, Logical};
 use crate::opcodes::{Class, Entry, Form};
 
 // The whole table, and its rule.
+#[tactic(auto, unfolding(crate::specs::Opcodes::class_of))]
 pub(crate) fn entries() -> &'static [Entry; 256]
     ensures { result.now ≡ map entry_of (range_with_len 0 256) }
 {

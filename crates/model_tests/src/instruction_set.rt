@@ -1,5 +1,5 @@
 // The instruction set: ends of the range, fields, every opcode, every mask at every setting of the flags.
-use isa::{Arithmetic, Class, Flags, Form, Instruction, Logical, Mask, decode};
+use isa::{Arithmetic, Class, Entry, Flags, Form, Instruction, Logical, Mask, decode};
 
 const MIN: u32 = 0x8000_0000;
 
@@ -76,11 +76,20 @@ fn logic(rt: HostRuntime) {
 
 #[test]
 fn fields(rt: HostRuntime) {
-    let i = Instruction::from_word(0x1005_03ff);
-    assert_eq!(rt; (i.opcode, i.r3, i.r1, i.r2), (0x10, 5, 3, 255));
     assert_eq!(rt;
-        (i.mask.i, i.mask.v, i.mask.n, i.mask.z),
-        (false, true, false, true)
+        Instruction::from(0x1005_03ff),
+        Instruction {
+            opcode: 0x10,
+            r3: 5,
+            r1: 3,
+            r2: 255,
+            mask: Mask {
+                i: false,
+                v: true,
+                n: false,
+                z: true,
+            },
+        }
     );
     for (word, immediate) in [
         (0xffff_ff00, 0),
@@ -88,7 +97,7 @@ fn fields(rt: HostRuntime) {
         (0x80, 0xffff_ff80),
         (0xff, 0xffff_ffff),
     ] {
-        assert_eq!(rt; Instruction::from_word(word).immediate(), immediate);
+        assert_eq!(rt; Instruction::from(word).immediate(), immediate);
     }
 }
 
@@ -104,49 +113,43 @@ fn branches(rt: HostRuntime) {
             };
             let some = mask % 8 & set != 0;
             assert_eq!(rt;
-                Instruction::from_word(mask << 16).mask.taken(flags),
+                Instruction::from(mask << 16).mask.taken(flags),
                 some == (mask >= 8)
             );
         }
     }
 }
 
+// Every opcode that is known, its class and its clocks; any other is unknown, in 4 clocks.
 #[test]
 fn opcodes(rt: HostRuntime) {
+    let rows = [
+        (0x00, Class::Arithmetic(Arithmetic::Add), 5),
+        (0x01, Class::Arithmetic(Arithmetic::Sub), 5),
+        (0x02, Class::Arithmetic(Arithmetic::Mul), 5),
+        (0x03, Class::Arithmetic(Arithmetic::Div), 5),
+        (0x04, Class::Logical(Logical::And), 5),
+        (0x05, Class::Logical(Logical::Or), 5),
+        (0x06, Class::Logical(Logical::Xor), 5),
+        (0x07, Class::Logical(Logical::Mask), 5),
+        (0x10, Class::ArithmeticQuick(Arithmetic::Add), 5),
+        (0x11, Class::ArithmeticQuick(Arithmetic::Sub), 5),
+        (0x12, Class::ArithmeticQuick(Arithmetic::Mul), 5),
+        (0x13, Class::ArithmeticQuick(Arithmetic::Div), 5),
+        (0x20, Class::Load(Form::Long), 10),
+        (0x21, Class::Store(Form::Long), 10),
+        (0x30, Class::Load(Form::Quick), 7),
+        (0x31, Class::Store(Form::Quick), 7),
+        (0x40, Class::Branch(Form::Long), 5),
+        (0x41, Class::BranchIndexed(Form::Long), 5),
+        (0x50, Class::Branch(Form::Quick), 4),
+        (0x51, Class::BranchIndexed(Form::Quick), 4),
+    ];
     for opcode in 0..=255u8 {
-        let entry = decode(opcode);
-        assert_eq!(rt; (encoded(entry.class), entry.clocks), expected(opcode));
-    }
-}
-
-// The one opcode of a class.
-fn encoded(class: Class) -> Option<u8> {
-    match class {
-        Class::Arithmetic(operation) => Some(operation as u8),
-        Class::Logical(operation) => Some(0x04 | operation as u8),
-        Class::ArithmeticQuick(operation) => Some(0x10 | operation as u8),
-        Class::Load(form) => Some(0x20 | quick_bit(form)),
-        Class::Store(form) => Some(0x21 | quick_bit(form)),
-        Class::Branch(form) => Some(0x40 | quick_bit(form)),
-        Class::BranchIndexed(form) => Some(0x41 | quick_bit(form)),
-        Class::Unknown => None,
-    }
-}
-
-fn quick_bit(form: Form) -> u8 {
-    match form {
-        Form::Long => 0,
-        Form::Quick => 0x10,
-    }
-}
-
-// The opcode if it is known, and its clocks.
-fn expected(opcode: u8) -> (Option<u8>, u8) {
-    match opcode {
-        0x00..=0x07 | 0x10..=0x13 | 0x40 | 0x41 => (Some(opcode), 5),
-        0x20 | 0x21 => (Some(opcode), 10),
-        0x30 | 0x31 => (Some(opcode), 7),
-        0x50 | 0x51 => (Some(opcode), 4),
-        _ => (None, 4),
+        let (_, class, clocks) = rows
+            .into_iter()
+            .find(|row| row.0 == opcode)
+            .unwrap_or((opcode, Class::Unknown, 4));
+        assert_eq!(rt; decode(opcode), Entry { class, clocks });
     }
 }

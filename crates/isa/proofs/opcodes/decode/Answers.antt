@@ -6,5 +6,6 @@ use Rattle.isa.proofs.opcodes.decode.Goals as goal
 
 pub returns : goal.returns
 returns c =
+    let same = c.from.ensures in
     rw c.entries.ensures
-    (get_or-map-range_with_len entry_of 0 256 c.args.opcode c.args.opcode _ (omega arith) (omega arith))
+    (get_or-map-range_with_len entry_of 0 256 c.from.result c.args.opcode _ (omega (arith, same)) (omega (arith, same)))
