@@ -4,7 +4,7 @@ ghost use Rattle.fault_line.specs.Numeral.{digits, radix};
 ghost use Rattle.fault_line.specs.Reading.{DigitRead, NumberRead};
 
 #[derive(Clone, Copy)]
-pub enum Base {
+pub(crate) enum Base {
     Decimal = 10,
     Hexadecimal = 16,
 }
@@ -17,7 +17,7 @@ impl Base {
     }
 
     // The last digits of a number, as many as the array has places.
-    pub fn digits<const N: usize>(self, n: u32) -> [u8; N]
+    pub(crate) fn digits<const N: usize>(self, n: u32) -> [u8; N]
         ensures { result ≡ digits (radix self) N n }
     {
         let radix = self.radix();
@@ -40,7 +40,7 @@ impl Base {
     }
 
     // The number that a text of digits writes.
-    pub fn value(self, text: &[u8]) -> Option<u32>
+    pub(crate) fn value(self, text: &[u8]) -> Option<u32>
         requires { radix self ^ length text.now ≤ 2 ^ 32 }
         ensures { NumberRead (radix self) text.now result }
     {

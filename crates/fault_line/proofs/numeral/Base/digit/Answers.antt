@@ -12,10 +12,6 @@ kept b c d h l e true t = (ltb-true d b (sym t), e)
 kept b c d h l e false t = λ n m w.
     omega (arith, ltb-false d b (sym t), digit_tells d n l (omega arith) (sym e ∙ w))
 
-pub returns-in_err-d : goal.returns-in_err-d
-returns-in_err-d c =
-    rw c.from_residual.ensures (λ e l h. c.in_err-d.ensures e (omega (arith, radix_bounds c.args.self)) h)
-
 pub returns : goal.returns
 returns c =
     let read = c.in_ok-d.ensures in

@@ -1,6 +1,6 @@
 use Rattle.std.proofs.Common.{length, refl, arith, rules}
 use native.Mathlib.Nat.{pow-zero}
-use Rattle.std.proofs.lemmas.List.{take_more, take_all}
+use Rattle.std.proofs.lemmas.List.{take_more}
 use Rattle.fault_line.specs.Numeral.{digits, radix}
 use Rattle.fault_line.proofs.Digits.{one_read, below_more, below_all, no_digit, radix_bounds}
 use Rattle.fault_line.proofs.numeral.Base.value.Goals as goal
@@ -29,6 +29,3 @@ returns-in_err-n c =
 
 pub loop-character-preserved : goal.loop-character-preserved
 loop-character-preserved c = search (rules, below_more, one_read, take_more)
-
-pub returns : goal.returns
-returns c = search (rules, take_all)
