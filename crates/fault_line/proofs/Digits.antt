@@ -7,7 +7,14 @@ use Rattle.std.proofs.lemmas.List.{append_assoc, drop-set, get_or-map, length_pu
 use Rattle.std.proofs.lemmas.Nat.{div-add-mod', div_below, div-mul-add, mod-mul-add, mod_below, mul-add-lt}
 use Rattle.std.proofs.lemmas.List.FromFn.{get_or-range_with_len}
 use Rattle.std.proofs.ByRecursion.{All-push, All-get_or}
-use Rattle.fault_line.specs.Numeral.{digit, digits}
+use Rattle.fault_line.specs.declared.numeral.Base.{Base}
+use Rattle.fault_line.specs.declared.numeral.Base.TheVariants.{Decimal, Hexadecimal}
+use Rattle.fault_line.specs.Numeral.{digit, digits, radix}
+
+-- of the two bases
+pub radix_bounds : (base : Base) → (2 ≤ radix base) × (radix base ≤ 16)
+radix_bounds Decimal = (omega arith, omega arith)
+radix_bounds Hexadecimal = (omega arith, omega arith)
 
 digits_last : (b k n : ℕ) → 0 < k → digits b k n ≡ digits b (k - 1) (n / b) ++ (digit (n % b) ∷ [])
 unfolding digits

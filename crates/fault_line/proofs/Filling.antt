@@ -1,27 +1,21 @@
--- A piece of text that is copied into a buffer, after what it holds already.
+-- Texts that are written over the front of a buffer, one after the other.
 -- Assumes nothing.
-use Rattle.std.proofs.Common.{◌≡◌, ℕ, ◌+◌, ◌-◌, List, ◌++◌, length, drop, sym, subst, arith}
-use borrow.Rule.Slice.PartMut.{put_mid}
-use Rattle.std.proofs.lemmas.List.{append_assoc, length-append, take_at, drop_at, drop-drop}
-use Rattle.fault_line.specs.Buffer.{Holds, Grows}
+use Rattle.std.proofs.Common.{◌≡◌, ℕ, ◌+◌, ◌<◌, ◌≤◌, List, [], ◌∷◌, ◌++◌, length, get_or, take, drop, Bor, sym, ap, ◌∙◌, arith}
+use Rattle.std.proofs.lemmas.Grind.{flat_map-append}
+use Rattle.std.proofs.lemmas.List.{append-nil, length-append, take_more, take-append-drop}
+use Rattle.fault_line.specs.Buffer.{joined}
 
-pub grows : (piece : List ℕ) (at : ℕ) (line : List ℕ)
-    → Grows piece at line (at + length piece) (put_mid at (at + length piece - at) line piece)
-grows piece at line done before h =
-    let k : at + length piece - at ≡ length piece = omega arith in
-    let n : length done ≡ at = sym h.0 in
-    let rest = drop (length done) before in (
-      simp length-append (omega arith),
-      rw (k, h.1, take_at done rest at n, drop_at done rest at n, drop-drop, length-append, append_assoc),
-    )
+-- one text more
+pub joined_more : (parts : List (Bor (List ℕ))) (i : ℕ) (d : Bor (List ℕ)) → i < length parts
+    → joined (take (i + 1) parts) ≡ joined (take i parts) ++ (get_or parts i d).now
+joined_more parts i d h =
+    rw (take_more parts i d h, flat_map-append (λ part. part.now) (take i parts) (get_or parts i d ∷ []), append-nil)
 
-pub then_grows : (p q : List ℕ) (at mid end : ℕ) (l m n : List ℕ) → Grows p at l mid m → Grows q mid m end n
-    → Grows (p ++ q) at l end n
-then_grows p q at mid end l m n g h done before w =
-    subst (λ t. Holds t before end n) (append_assoc done p q) (h (done ++ p) before (g done before w))
-
--- a field after its mark, where its text is known by another name
-pub then_field : (mark : List ℕ) {text known : List ℕ} (q : List ℕ) (at mid end : ℕ) (l m n : List ℕ) → text ≡ known
-    → Grows (mark ++ text) at l mid m → Grows q mid m end n → Grows ((mark ++ known) ++ q) at l end n
-then_field mark {text} {known} q at mid end l m n e g h =
-    then_grows (mark ++ known) q at mid end l m n (subst (λ t. Grows (mark ++ t) at l mid m) e g) h
+-- has its room among all of them
+pub joined_fits : (parts : List (Bor (List ℕ))) (i : ℕ) (d : Bor (List ℕ)) → i < length parts
+    → length (joined (take i parts)) + length (get_or parts i d).now ≤ length (joined parts)
+joined_fits parts i d h =
+    let all = flat_map-append (λ part. part.now) (take (i + 1) parts) (drop (i + 1) parts) in
+    let parted : joined parts ≡ joined (take (i + 1) parts) ++ joined (drop (i + 1) parts) =
+    ap joined (sym (take-append-drop (i + 1) parts)) ∙ all in
+    omega (arith, simp length-append at (ap length (parted)), simp length-append at (ap length (joined_more parts i d h)))

@@ -1,7 +1,9 @@
 -- No two faults share a line: each field can be told from what stands at the front of a text.
 -- Assumes nothing.
-use Rattle.std.proofs.Common.{◌≡◌, ℕ, zero, suc, ◌^◌, ◌<◌, ◌≤◌, cond, eqb, List, [], ◌∷◌, ◌++◌, take, drop, Some, None, codes, Option, sym, refl, ap, ◌∙◌, arith}
-use Rattle.std.proofs.lemmas.List.{append_assoc, append_cancel_left, take_at, drop_at}
+use Rattle.std.proofs.Common.{◌≡◌, ℕ, zero, suc, ◌^◌, ◌<◌, ◌≤◌, cond, eqb, Bool, true, false, List, [], ◌∷◌, ◌++◌, length, take, drop, Some, None, codes, Option, Decides, sym, refl, ap, ◌∙◌, subst, arith}
+use Rattle.std.specs.Bool.{then_some}
+use Rattle.std.proofs.lemmas.Bool.{false≢true}
+use Rattle.std.proofs.lemmas.List.{append_assoc, append_cancel_left, length-append, take_at, drop_at}
 use Rattle.fault_line.specs.declared.Fields.{Fields}
 use Rattle.fault_line.specs.Answer.{fault}
 use Rattle.fault_line.specs.Line.{Counts, InRange, line_of, name, stages, causes}
@@ -57,6 +59,27 @@ cause_is zero l h xs = absurd (omega arith)
 cause_is (suc zero) l h xs = refl
 cause_is (suc (suc zero)) l h xs = refl
 cause_is (suc (suc (suc n))) l h xs = absurd (omega arith)
+
+-- how long the line of a fault is
+stage_length : (n : ℕ) → 1 ≤ n → n ≤ 4 → (4 ≤ length (name stages n)) × (length (name stages n) ≤ 5)
+stage_length zero l h = absurd (omega arith)
+stage_length (suc zero) l h = (omega arith, omega arith)
+stage_length (suc (suc zero)) l h = (omega arith, omega arith)
+stage_length (suc (suc (suc zero))) l h = (omega arith, omega arith)
+stage_length (suc (suc (suc (suc zero)))) l h = (omega arith, omega arith)
+stage_length (suc (suc (suc (suc (suc n))))) l h = absurd (omega arith)
+
+cause_length : (n : ℕ) → 1 ≤ n → n ≤ 2 → (5 ≤ length (name causes n)) × (length (name causes n) ≤ 6)
+cause_length zero l h = absurd (omega arith)
+cause_length (suc zero) l h = (omega arith, omega arith)
+cause_length (suc (suc zero)) l h = (omega arith, omega arith)
+cause_length (suc (suc (suc n))) l h = absurd (omega arith)
+
+pub line_bounds : (f : Fields) → InRange f → (46 ≤ length (line_of f)) × (length (line_of f) ≤ 48)
+line_bounds f v =
+    let s = stage_length f.stage v.stage_in.0 v.stage_in.1 in
+    let c = cause_length f.cause v.cause_in.0 v.cause_in.1 in
+    (simp (length-append, length_digits) (omega (arith, s, c)), simp (length-append, length_digits) (omega (arith, s, c)))
 
 axis_tells : Tells (λ n. n < 10) axis_text
 axis_tells = number_tells (codes "A") 10 1 (omega arith) (omega arith)
@@ -155,9 +178,18 @@ pub whole : (a s i x c o l : ℕ) {line r1 r2 r3 r4 r5 r6 r7 : List ℕ} → lin
     → r6 ≡ layer_text l ++ r7 → r7 ≡ 10 ∷ [] → line ≡ line_of (fault a s i x c o l)
 whole a s i x c o l h1 h2 h3 h4 h5 h6 h7 end = rw (h1, h2, h3, h4, h5, h6, h7, end)
 
-pub some : (line : List ℕ) (g : Fields) → InRange g → line ≡ line_of g → Read line (Some g)
-some line g w h = record { found = (w, h); same = λ f v e. ap Some (one_fault g f w v (sym h ∙ e)) }
-
 pub none : (line : List ℕ) (r : Option Fields) → r ≡ None → ((f : Fields) → InRange f → line ≡ line_of f → ⊥)
     → Read line r
 none line r e h = rw e (record { found = h; same = λ f v l. absurd (h f v l) })
+
+-- what is read is given where a test holds
+pub if_not : (line : List ℕ) (g : Fields) (test : Bool) → test ≡ false → ((f : Fields) → InRange f → line ≡ line_of f → ⊥)
+    → Read line (then_some test g)
+if_not line g test e h = rw e (none line None refl h)
+
+pub if_in_range : (line : List ℕ) (g : Fields) (test in_range : Bool) → test ≡ in_range → Decides in_range (InRange g)
+    → line ≡ line_of g → ((f : Fields) → InRange f → line ≡ line_of f → g ≡ f) → Read line (then_some test g)
+if_in_range line g test true e d h is =
+    rw e (record { found = (d.0 refl, h); same = λ f v l. ap Some (is f v l) })
+if_in_range line g test false e d h is =
+    if_not line g test e (λ f v l. false≢true (d.1 (subst InRange (sym (is f v l)) v)))

@@ -27,17 +27,19 @@ NumberRead b text r =
     MatchOption r ((n : ℕ) → text ≢ digits b (length text) n)
     (λ n. (n < b ^ length text) × (text ≡ digits b (length text) n))
 
-abbrev pub MarkRead : List ℕ → List ℕ → Option (Bor (List ℕ)) → Type 0
-MarkRead mark text r = MatchOption r ((rest : List ℕ) → text ≢ mark ++ rest) (λ rest. text ≡ mark ++ rest.now)
+-- `after` is what is left of a text
+abbrev pub MarkRead : List ℕ → List ℕ → Option Unit → List ℕ → Type 0
+MarkRead mark text r after =
+    MatchOption r (((rest : List ℕ) → text ≢ mark ++ rest) × (after ≡ text)) (λ _. text ≡ mark ++ after)
 
 -- one field at the front of a text, and what follows it; or that no number in its range stands there
-abbrev pub FieldRead : (ℕ → Type 0) → (ℕ → List ℕ) → List ℕ → Option (ℕ × Bor (List ℕ)) → Type 0
-FieldRead In piece text r =
+abbrev pub FieldRead : (ℕ → Type 0) → (ℕ → List ℕ) → List ℕ → Option ℕ → List ℕ → Type 0
+FieldRead In piece text r after =
     MatchOption r ((n : ℕ) (rest : List ℕ) → In n → text ≢ piece n ++ rest)
-    (λ p. In p.0 × (text ≡ piece p.0 ++ p.1.now))
+    (λ n. In n × (text ≡ piece n ++ after))
 
-abbrev pub NumeralRead : List ℕ → ℕ → ℕ → List ℕ → Option (ℕ × Bor (List ℕ)) → Type 0
+abbrev pub NumeralRead : List ℕ → ℕ → ℕ → List ℕ → Option ℕ → List ℕ → Type 0
 NumeralRead mark b k = FieldRead (λ n. n < b ^ k) (λ n. mark ++ digits b k n)
 
-abbrev pub NameRead : List (Bor (List ℕ)) → List ℕ → Option (ℕ × Bor (List ℕ)) → Type 0
+abbrev pub NameRead : List (Bor (List ℕ)) → List ℕ → Option ℕ → List ℕ → Type 0
 NameRead names = FieldRead (Counts (length names)) (λ n. codes " " ++ name (texts names) n)

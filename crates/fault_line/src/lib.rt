@@ -1,17 +1,19 @@
 // The fault line: what a panel shows of a halted axis, as one line of text, and how that is read again.
 #![tactic(auto)]
 
-ghost use Rattle.std.specs.Prelude.{◌≡◌, length, Decides};
-ghost use Rattle.fault_line.specs.Line.{Counts, InRange, causes, stages, texts};
+ghost use Rattle.std.specs.Prelude.{Decides};
+ghost use Rattle.fault_line.specs.Line.{InRange};
 
+mod numeral;
 mod read;
 mod write;
 
 pub use read::read_line;
-pub use write::dp32_fault_line;
+pub use write::write_line;
 
-// What a fault line tells, as seven numbers.
-#[derive(Clone, Copy, PartialEq, Debug)]
+// What a fault line tells. It is seven numbers since the interface to C passes seven numbers, any of which may be out of its
+// range.
+#[derive(Clone, Copy, PartialEq, Eq, Debug)]
 pub struct Fields {
     // the axis that halted, 1 to 3
     pub axis: u32,
@@ -30,36 +32,18 @@ pub struct Fields {
 }
 
 // The names that stand in the line, in the order of their numbers, which count from 1.
-const STAGES: [&'static [u8]; 4] = [b"fetch", b"displ", b"load", b"store"];
+const STAGES: [&[u8]; 4] = [b"fetch", b"displ", b"load", b"store"];
 
-const CAUSES: [&'static [u8]; 2] = [b"absent", b"fixed"];
-
-fn stage_names() -> &'static [&'static [u8]]
-    ensures len { length result.now ≡ 4 }
-    ensures names { texts result.now ≡ stages }
-{
-    &STAGES
-}
-
-fn cause_names() -> &'static [&'static [u8]]
-    ensures len { length result.now ≡ 2 }
-    ensures names { texts result.now ≡ causes }
-{
-    &CAUSES
-}
-
-// Whether a number is one of 1 to `last`.
-fn counts(n: u32, last: u32) -> bool
-    ensures { Decides result (Counts last n) }
-{
-    1 <= n && n <= last
-}
+const CAUSES: [&[u8]; 2] = [b"absent", b"fixed"];
 
 impl Fields {
     // Whether a fault can have these numbers. Its addresses can be any.
     fn in_range(self) -> bool
         ensures { Decides result (InRange self) }
     {
-        counts(self.axis, 3) && counts(self.stage, 4) && counts(self.cause, 2) && self.layer <= 255
+        (1..=3).contains(&self.axis)
+            && (1..=4).contains(&self.stage)
+            && (1..=2).contains(&self.cause)
+            && self.layer <= 255
     }
 }

@@ -3,6 +3,8 @@
 
 ghost use Rattle.fault_line.specs.Answer.{Answered, fault};
 
+use fault_line::{Fields, write_line};
+
 // Writes the line of a fault into a buffer. The answer is the line's length, or minus the number of the refusal: a field is
 // out of its range, or the buffer does not do for every line.
 #[unsafe(no_mangle)]
@@ -18,5 +20,17 @@ pub extern "C" fn dp32_fault_line(
 ) -> i32
     ensures { Answered (fault axis stage instruction access cause origin layer) line.entry result line.exit }
 {
-    fault_line::dp32_fault_line(axis, stage, instruction, access, cause, origin, layer, line)
+    let fields = Fields {
+        axis,
+        stage,
+        instruction,
+        access,
+        cause,
+        origin,
+        layer,
+    };
+    match write_line(fields, line) {
+        Ok(length) => length as i32,
+        Err(refusal) => -(u32::from(refusal) as i32),
+    }
 }

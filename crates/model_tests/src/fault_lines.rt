@@ -1,11 +1,7 @@
 // Lines as a panel sees them, refusals, and texts that are nearly lines.
-use fault_line::{Fields, dp32_fault_line, read_line};
+use fault_line::{Fields, read_line, write_line};
 use std::process::Abort;
 use std::test::Fail;
-
-fn write(f: [u32; 7], line: &mut [u8]) -> i32 {
-    dp32_fault_line(f[0], f[1], f[2], f[3], f[4], f[5], f[6], line)
-}
 
 fn fields([axis, stage, instruction, access, cause, origin, layer]: [u32; 7]) -> Fields {
     Fields {
@@ -22,8 +18,7 @@ fn fields([axis, stage, instruction, access, cause, origin, layer]: [u32; 7]) ->
 // The line stands at the front of the buffer, the rest is as it was, and it is read as what was written.
 fn line(rt: &impl Abort, f: [u32; 7], text: &[u8]) -> Result<(), Fail> {
     let mut line = [0xaa; 50];
-    let length = write(f, &mut line);
-    assert_eq!(rt; usize::try_from(length).ok(), Some(text.len()));
+    assert_eq!(rt; write_line(fields(f), &mut line), Ok(text.len()));
     let rest = line.strip_prefix(text).ok_or("another line")?;
     for byte in rest {
         assert_eq!(rt; *byte, 0xaa);
@@ -32,10 +27,12 @@ fn line(rt: &impl Abort, f: [u32; 7], text: &[u8]) -> Result<(), Fail> {
     Ok(())
 }
 
-fn refused(rt: &impl Abort, f: [u32; 7], size: usize, answer: i32) {
+// Nothing is written, and the refusal has the number.
+fn refused(rt: &impl Abort, f: [u32; 7], size: usize, number: u32) {
     let mut line = [0xaa; 50];
     assert!(rt; size <= 50);
-    assert_eq!(rt; write(f, &mut line[0..size]), answer);
+    let answer = write_line(fields(f), &mut line[0..size]);
+    assert_eq!(rt; answer.map_err(u32::from), Err(number));
     assert_eq!(rt; line, [0xaa; 50]);
 }
 
@@ -88,7 +85,7 @@ fn layers(rt: HostRuntime) {
     for layer in 0..256 {
         let f = [1, 3, 0, 0x1000, 1, 0x1000, layer];
         let mut line = [0; 48];
-        assert_eq!(rt; write(f, &mut line), 47);
+        assert_eq!(rt; write_line(fields(f), &mut line), Ok(47));
         assert_eq!(rt; read_line(&line[0..47]), Some(fields(f)));
     }
 }
@@ -105,11 +102,11 @@ fn refusals(rt: HostRuntime) {
         [1, 3, 0, 0x1000, 3, 0x1000, 0],
         [1, 3, 0, 0x1000, 1, 0x1000, 256],
     ] {
-        refused(&rt, f, 50, -46);
-        refused(&rt, f, 47, -46);
+        refused(&rt, f, 50, 46);
+        refused(&rt, f, 47, 46);
     }
-    refused(&rt, [1, 3, 0, 0x1000, 1, 0x1000, 0], 47, -45);
-    refused(&rt, [1, 3, 0, 0x1000, 1, 0x1000, 0], 0, -45);
+    refused(&rt, [1, 3, 0, 0x1000, 1, 0x1000, 0], 47, 45);
+    refused(&rt, [1, 3, 0, 0x1000, 1, 0x1000, 0], 0, 45);
 }
 
 #[test]

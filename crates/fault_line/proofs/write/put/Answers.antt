@@ -1,10 +1,6 @@
 use Rattle.std.proofs.Common.{rules}
-use Rattle.fault_line.proofs.Filling.{grows}
+use Rattle.fault_line.proofs.Filling.{joined_fits}
 use Rattle.fault_line.proofs.write.put.Goals as goal
 
-pub returns : goal.returns
-returns c =
-    record {
-      end = search rules;
-      puts = rw c.copy_from_slice.ensures.after (grows c.args.text.now c.args.at c.args.line.now);
-    }
+pub slice_bounds-copy_from_slice-end : goal.slice_bounds-copy_from_slice-end
+slice_bounds-copy_from_slice-end c = search (rules, joined_fits)
