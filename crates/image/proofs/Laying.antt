@@ -1,14 +1,17 @@
 -- Segments that are looked at, and laid, one after another.
-use Rattle.std.proofs.Common.{◌≡◌, ℕ, ◌+◌, ◌^◌, ◌<◌, ◌≤◌, false, List, Some, sym, ap, ◌∙◌, subst, inl, inr, arith, rules}
+use Rattle.std.proofs.Common.{◌≡◌, ℕ, ◌+◌, ◌^◌, ◌<◌, ◌≤◌, true, false, List, Some, Result, sym, ap, ◌∙◌, subst, inl, inr, arith, rules}
 use Rattle.std.proofs.lemmas.Bool.{cases_lt}
+use Rattle.std.proofs.lemmas.Grind.{common_steps}
 use Rattle.std.proofs.lemmas.Bool.Decides.{nat_tests}
 use Rattle.card.specs.declared.cell.Cell.TheVariants.{Open}
 use Rattle.card.specs.Ends.{Map}
-use Rattle.card.specs.Meaning.{Meaning, mapped}
+use Rattle.card.specs.Meaning.{Meaning, mapped, Placed}
+use Rattle.refusal.specs.declared.Refusal.{Refusal}
 use Rattle.image.specs.declared.image.Image.{Image}
 use Rattle.image.specs.declared.segment.Segment.{Segment}
 use Rattle.image.specs.Directory.{count_of, offset_of, length_of, end_of, part_of, Right}
 use Rattle.image.specs.Words.{cell_is_open, words_in, word_in, OpenFrom, laid}
+use Rattle.image.specs.Check.{bytes_of}
 use Rattle.image.specs.Segments.{Shown}
 use Rattle.image.specs.Placing.{Holds, AllOpen, FirstClosed, Lays, Laid}
 use Rattle.image.proofs.Pairs.{apart, part_words}
@@ -20,8 +23,8 @@ pub record Here (bs : List ℕ) (n o : ℕ) (part : List ℕ) : Type 0 where
   pub begins : o ≡ offset_of bs n
   pub reads : part ≡ part_of bs n
 
-pub shown : (i : Image) (n : ℕ) (s : Segment) → Shown i.bytes.now n (Some s)
-    → Here i.bytes.now n s.offset s.words.now
+pub shown : (i : Image) (n : ℕ) (s : Segment) → Shown (bytes_of i) n (Some s)
+    → Here (bytes_of i) n s.offset s.words.now
 shown i n s (l, e, p) = record { right = i.right; within = l; begins = e; reads = p }
 
 laid_in : (o : ℕ) (part : List ℕ) (k : ℕ) (f : Map) (j : ℕ) → j < k → laid o part k f (o + j) ≡ Open (word_in part j)
@@ -29,6 +32,12 @@ laid_in o part k f j l = grind (arith, nat_tests)
 
 laid_other : (o : ℕ) (part : List ℕ) (k : ℕ) (f : Map) (a : ℕ) → (o ≤ a → a < o + k → ⊥) → laid o part k f a ≡ f a
 laid_other o part k f a out = grind (arith, nat_tests)
+
+-- One more word of a segment at its place, which is open.
+pub laid_step : (o : ℕ) (part : List ℕ) (k w : ℕ) (first before after : Meaning) (r : Result (Unit {0}) Refusal)
+    → cell_is_open (first.map (o + k)) ≡ true → before ≡ mapped (laid o part k first.map) first → w ≡ word_in part k
+    → Placed before (o + k) w r after → after ≡ mapped (laid o part (k + 1) first.map) first
+laid_step o part k w first before after r opened so_far word placed = grind (arith, common_steps)
 
 module _ {bs : List ℕ} {n o : ℕ} {part : List ℕ} (h : Here bs n o part) where
   ends : o + words_in part ≡ end_of bs n
