@@ -1,13 +1,9 @@
 -- Chunks of a list, and numbers read from a part of it.
-use Rattle.std.proofs.Common.{◌≡◌, ℕ, zero, suc, ◌+◌, ◌*◌, ◌<◌, ◌≤◌, List, ◌∷◌, length, take, drop, get_or, slice_index, refl, ap, ◌∙◌, arith, mul-zero, mul-suc}
+use Rattle.std.proofs.Common.{◌≡◌, ℕ, zero, suc, ◌+◌, ◌*◌, ◌<◌, ◌≤◌, List, ◌∷◌, take, drop, get_or, slice_index, refl, ap, ◌∙◌, arith, mul-zero, mul-suc}
 use Rattle.std.proofs.Math.Seq.{drop-drop}
 use Rattle.std.proofs.lemmas.List.{get_or-take, get_or-drop}
 use Rattle.std.specs.Simd.{first_chunks}
 use Rattle.image.specs.Directory.{number}
-
-pub length-first_chunks : {X : Type 0} (n k : ℕ) (xs : List X) → length (first_chunks n k xs) ≡ k
-length-first_chunks n zero xs = refl
-length-first_chunks n (suc k) xs = ap suc (length-first_chunks n k (drop n xs))
 
 pub take-first_chunks : {X : Type 0} (n j k : ℕ) (xs : List X) → j ≤ k → take j (first_chunks n k xs) ≡ first_chunks n j xs
 take-first_chunks n zero k xs h = refl

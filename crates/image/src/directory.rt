@@ -93,6 +93,7 @@ impl<'a> Directory<'a> {
         ensures value { result ≡ words_before self.now.bytes.now n }
         ensures bound { result ≤ 2 ^ 38 }
     {
+        // a loop, since the sum of a chain answers no bound
         let mut words = 0;
         for bytes in &self.pairs[..n] {
             words += Pair::from(*bytes).length as usize;
@@ -114,15 +115,15 @@ impl<'a> TryFrom<&'a [u8]> for Directory<'a> {
 
     type Error = Refusal;
 
-    ghost try_from_gives = { λ bytes directory. Read bytes.now directory };
+    ghost try_from_gives = { λ bytes answer. Read bytes.now answer };
 
     fn try_from(bytes: &'a [u8]) -> Result<Directory<'a>, Refusal> {
-        let (count, rest) = bytes.split_first_chunk().ok_or(Refusal::Length)?;
+        let (count, rest) = bytes.split_first_chunk::<4>().ok_or(Refusal::Length)?;
         let count = u32::from_be_bytes(*count) as usize;
         if count > 64 {
             return Err(Refusal::Count);
         }
-        let (pairs, _) = rest.as_chunks();
+        let (pairs, _) = rest.as_chunks::<8>();
         let pairs = pairs.get(..count).ok_or(Refusal::Length)?;
         Ok(Directory { bytes, pairs })
     }
