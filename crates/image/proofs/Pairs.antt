@@ -1,22 +1,39 @@
 -- The pairs of a directory, one after another.
-use Rattle.std.proofs.Common.{◌≡◌, ℕ, zero, suc, ◌+◌, ◌*◌, ◌<◌, ◌≤◌, List, length, ap, inl, inr, add-one, arith, length-drop, length-take}
+use Rattle.std.proofs.Common.{◌≡◌, ℕ, zero, suc, ◌+◌, ◌*◌, ◌<◌, ◌≤◌, List, length, ap, inl, inr, add-one, arith, length-drop, length-take, take, drop, get_or, ◌∙◌}
+use Rattle.std.proofs.Math.Seq.{drop-drop}
 use Rattle.std.proofs.lemmas.Bool.{cases_lt}
-use Rattle.image.specs.Directory.{count_of, offset_of, length_of, end_of, floor_of, words_up_to, start_of, part_of}
+use Rattle.image.specs.declared.directory.Directory.{Directory}
+use Rattle.image.specs.Directory.{number, count_of, offset_of, length_of, end_of, floor_of, words_before, start_of, part_of}
 use Rattle.image.specs.Directory.{RightPairs, Right}
 use Rattle.image.specs.Words.{words_in}
+use Rattle.image.proofs.Chunks.{chunk_at, number_in}
 
-pub words_more : (bs : List ℕ) (n : ℕ) → words_up_to bs (n + 1) ≡ words_up_to bs n + length_of bs n
+-- The numbers of pair n, read from its bytes.
+module _ (d : Directory) (n : ℕ) (x : List ℕ) (l : n < count_of d.bytes.now) where
+  pair_at : get_or d.pairs.now n x ≡ take 8 (drop (4 + 8 * n) d.bytes.now)
+  pair_at =
+      ap (λ ps. get_or ps n x) d.paired
+      ∙ chunk_at 8 (count_of d.bytes.now) (drop 4 d.bytes.now) n x l
+      ∙ ap (take 8) (drop-drop (8 * n) 4 d.bytes.now)
+
+  pub pair_offset : number (get_or d.pairs.now n x) 0 ≡ offset_of d.bytes.now n
+  pair_offset = ap (λ b. number b 0) pair_at ∙ number_in d.bytes.now (4 + 8 * n) 8 0 (omega arith) ∙ ap (number d.bytes.now) (omega arith)
+
+  pub pair_length : number (get_or d.pairs.now n x) 4 ≡ length_of d.bytes.now n
+  pair_length = ap (λ b. number b 4) pair_at ∙ number_in d.bytes.now (4 + 8 * n) 8 4 (omega arith) ∙ ap (number d.bytes.now) (omega arith)
+
+pub words_more : (bs : List ℕ) (n : ℕ) → words_before bs (n + 1) ≡ words_before bs n + length_of bs n
 words_more bs n = rw add-one
 
 pub floor_more : (bs : List ℕ) (n : ℕ) → floor_of bs (n + 1) ≡ end_of bs n
 floor_more bs n = rw add-one
 
-pub words_grow : (bs : List ℕ) (m n : ℕ) → m < n → words_up_to bs m + length_of bs m ≤ words_up_to bs n
+pub words_grow : (bs : List ℕ) (m n : ℕ) → m < n → words_before bs m + length_of bs m ≤ words_before bs n
 words_grow bs m zero h = omega arith
 words_grow bs m (suc n) h =
     elim (cases_lt m n) [
       | inl l ↦ omega (arith, words_grow bs m n l)
-      | inr g ↦ let e : m ≡ n = omega arith in omega (arith, ap (λ k. words_up_to bs k + length_of bs k) e)
+      | inr g ↦ let e : m ≡ n = omega arith in omega (arith, ap (λ k. words_before bs k + length_of bs k) e)
     ]
 
 -- Right pairs are sorted, and their segments lie apart.

@@ -3,6 +3,8 @@
 use Rattle.std.specs.Prelude.{◌≡◌, ℕ, ◌<◌, ◌≤◌, List, length, Ok, Err, Result, ◌≢◌}
 use Rattle.refusal.specs.declared.Refusal.{Refusal}
 use Rattle.refusal.specs.declared.Refusal.TheVariants as refused
+use Rattle.image.specs.declared.directory.Directory.{Directory}
+use Rattle.image.specs.declared.image.Image.{Image}
 use Rattle.image.specs.Directory.{count_of, end_of_directory, start_of, Listed, RightPairs, Right}
 
 -- The numbers of the three refusals: Length is 41, Count 42, Pair 43.
@@ -14,12 +16,16 @@ pub data Refused (bs : List ℕ) : Refusal → Type 0 where
   wrong_total : Listed bs → RightPairs bs (count_of bs) → (length bs ≢ start_of bs (count_of bs))
       → Refused bs refused.Length
 
--- The tests alone: the count of a right image, or the refusal.
-abbrev pub Tested : List ℕ → Result ℕ Refusal → Type 0
-Tested bs (Ok count) = Right bs × (count ≡ count_of bs)
-Tested bs (Err e) = Refused bs e
+-- The bytes of an image.
+abbrev pub bytes_of : Image → List ℕ
+bytes_of image = image.directory.bytes.now
 
--- The check of the bytes bs by an image: its bytes before, the answer, and its bytes after.
-abbrev pub Checked : List ℕ → List ℕ → Result (Unit {0}) Refusal → List ℕ → Type 0
-Checked bs before (Ok u) after = Right bs × (after ≡ bs)
-Checked bs before (Err e) after = Refused bs e × (after ≡ before)
+-- The reading of the directory of the bytes bs alone: it is that of these bytes, or they are refused.
+abbrev pub Read : List ℕ → Result Directory Refusal → Type 0
+Read bs (Ok directory) = directory.bytes.now ≡ bs
+Read bs (Err e) = Refused bs e
+
+-- The check of the bytes bs: they are right and the image is theirs, or they are refused.
+abbrev pub Checked : List ℕ → Result Image Refusal → Type 0
+Checked bs (Ok image) = Right bs × (bytes_of image ≡ bs)
+Checked bs (Err e) = Refused bs e

@@ -2,6 +2,7 @@
 -- A reader must believe: an image is a count of pairs, the pairs of offset (an address) and length (in words), and then
 -- the words of all segments in that order; every number has four bytes, highest first. Pairs are counted from 0.
 use Rattle.std.specs.Prelude.{◌≡◌, ℕ, zero, suc, ◌+◌, ◌*◌, ◌^◌, ◌<◌, ◌≤◌, List, length, take, drop, slice_index}
+use Rattle.std.specs.Simd.{first_chunks}
 
 -- The number in the four bytes from the position p on.
 unfoldable pub number : List ℕ → ℕ → ℕ
@@ -21,9 +22,9 @@ abbrev pub end_of : List ℕ → ℕ → ℕ
 end_of bs n = offset_of bs n + length_of bs n
 
 -- How many words the segments before n have together.
-abbrev pub words_up_to : List ℕ → ℕ → ℕ
-words_up_to bs zero = 0
-words_up_to bs (suc n) = words_up_to bs n + length_of bs n
+abbrev pub words_before : List ℕ → ℕ → ℕ
+words_before bs zero = 0
+words_before bs (suc n) = words_before bs n + length_of bs n
 
 -- The position after the directory of so many pairs.
 abbrev pub end_of_directory : ℕ → ℕ
@@ -33,9 +34,13 @@ end_of_directory count = 4 + 8 * count
 abbrev pub Listed : List ℕ → Type 0
 Listed bs = (count_of bs ≤ 64) × (end_of_directory (count_of bs) ≤ length bs)
 
+-- The bytes of the pairs, eight for each.
+abbrev pub pairs_of : List ℕ → List (List ℕ)
+pairs_of bs = first_chunks 8 (count_of bs) (drop 4 bs)
+
 -- The position of the first byte of segment n.
 abbrev pub start_of : List ℕ → ℕ → ℕ
-start_of bs n = end_of_directory (count_of bs) + 4 * words_up_to bs n
+start_of bs n = end_of_directory (count_of bs) + 4 * words_before bs n
 
 -- The bytes of segment n.
 abbrev pub part_of : List ℕ → ℕ → List ℕ

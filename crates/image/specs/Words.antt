@@ -1,6 +1,7 @@
 -- The words of one segment, and their places on a card.
 -- A reader must believe: word k of a segment is the number of its bytes 4k to 4k + 3, at the address offset + k.
-use Rattle.std.specs.Prelude.{◌≡◌, ℕ, ◌+◌, ◌-◌, ◌*◌, ◌/◌, ◌<◌, ◌≤◌, Bool, true, false, cond, ◌&&◌, List, length, Some, None, Option, nat_le, nat_lt}
+use Rattle.std.specs.Prelude.{◌≡◌, ℕ, ◌+◌, ◌-◌, ◌*◌, ◌/◌, ◌<◌, ◌≤◌, Bool, true, false, cond, ◌&&◌, List, length, map, find, not, Option, nat_le, nat_lt}
+use Rattle.std.specs.List.{range_with_len}
 use Rattle.card.specs.declared.cell.Cell.{Cell}
 use Rattle.card.specs.declared.cell.Cell.TheVariants.{Absent, Fixed, Open}
 use Rattle.card.specs.Ends.{Map}
@@ -21,11 +22,13 @@ word_in part k = number part (4 * k)
 abbrev pub OpenFrom : Map → ℕ → ℕ → Type 0
 OpenFrom f first last = (a : ℕ) → first ≤ a → a < last → cell_is_open (f a) ≡ true
 
+-- The addresses of a segment at the offset, in order.
+abbrev pub addresses : ℕ → List ℕ → List ℕ
+addresses offset part = map (λ k. offset + k) (range_with_len 0 (words_in part))
+
 -- The first address of a segment at the offset that is not open, if any.
-abbrev pub ClosedIn : Map → ℕ → List ℕ → Option ℕ → Type 0
-ClosedIn f offset part None = OpenFrom f offset (offset + words_in part)
-ClosedIn f offset part (Some a) =
-    (offset ≤ a) × (a < offset + words_in part) × (cell_is_open (f a) ≡ false) × OpenFrom f offset a
+abbrev pub closed_in : Map → ℕ → List ℕ → Option ℕ
+closed_in f offset part = find (λ a. not (cell_is_open (f a))) (addresses offset part)
 
 -- The map with the first k words of a segment at their places.
 abbrev pub laid : ℕ → List ℕ → ℕ → Map → Map

@@ -4,16 +4,16 @@ ghost use Rattle.refusal.specs.declared.Refusal.TheVariants.{NotOpen};
 
 use refusal::Refusal;
 
-#[derive(Clone, Copy)]
+#[derive(Clone, Copy, PartialEq, Eq, Debug)]
 pub struct NotPlaced {
     // the lowest address of the image that is not open
     pub address: u32,
 }
 
-impl NotPlaced {
-    pub fn refusal(self) -> Refusal
-        ensures { result ≡ NotOpen }
-    {
+impl From<NotPlaced> for Refusal {
+    ghost from_gives = { λ _ refusal. refusal ≡ NotOpen };
+
+    fn from(_: NotPlaced) -> Refusal {
         Refusal::NotOpen
     }
 }

@@ -1,30 +1,21 @@
 // Images that are nearly right, segments at the ends, and placing on a word card.
-use card::{Card, Cell, Cells, Direction, Request, WordCard};
-use image::Image;
+use card::{Card, Cells, Direction, Request, WordCard};
+use image::{Image, NotPlaced};
 use refusal::Refusal;
 use std::test::Fail;
 
 // An image as its numbers: the count, two pairs and three words.
-fn image(numbers: [u32; 8]) -> [u8; 32] {
-    let mut bytes = [0; 32];
-    for n in 0..8 {
-        let [a, b, c, d] = numbers[n].to_be_bytes();
-        bytes[4 * n] = a;
-        bytes[4 * n + 1] = b;
-        bytes[4 * n + 2] = c;
-        bytes[4 * n + 3] = d;
-    }
-    bytes
+fn image(numbers: [u32; 8]) -> [[u8; 4]; 8] {
+    numbers.map(|number| number.to_be_bytes())
 }
 
 fn verdict(bytes: &[u8]) -> Option<Refusal> {
-    let mut image = Image::empty();
-    image.check(bytes).err()
+    Image::try_from(bytes).err()
 }
 
 // What is said of two pairs over three words.
 fn pairs(first: [u32; 2], second: [u32; 2]) -> Option<Refusal> {
-    verdict(&image([2, first[0], first[1], second[0], second[1], 7, 8, 9]))
+    verdict(image([2, first[0], first[1], second[0], second[1], 7, 8, 9]).as_flattened())
 }
 
 #[test]
@@ -118,8 +109,7 @@ fn no_segment(rt: HostRuntime) {
 #[test]
 fn segments(rt: HostRuntime) -> Result<(), Fail> {
     let bytes = image([2, 2, 2, 4, 1, 0x1020304, 0x5060708, 0x90a0b0c]);
-    let mut image = Image::empty();
-    image.check(&bytes)?;
+    let image = Image::try_from(bytes.as_flattened())?;
     let first = image.segment(0).ok_or("no first")?;
     assert_eq!(rt; first.offset, 2);
     assert_eq!(rt; first.words, [1, 2, 3, 4, 5, 6, 7, 8].as_slice());
@@ -133,9 +123,11 @@ fn segments(rt: HostRuntime) -> Result<(), Fail> {
 #[test]
 fn a_refusal_keeps_the_image(rt: HostRuntime) -> Result<(), Fail> {
     let bytes = image([2, 2, 2, 4, 1, 7, 8, 9]);
-    let mut image = Image::empty();
-    image.check(&bytes)?;
-    assert_eq!(rt; image.check(&bytes[0..31]).err(), Some(Refusal::Length));
+    let image = Image::try_from(bytes.as_flattened())?;
+    assert_eq!(rt;
+        verdict(&bytes.as_flattened()[0..31]),
+        Some(Refusal::Length)
+    );
     assert!(rt; image.segment(1).is_some());
     Ok(())
 }
@@ -143,8 +135,7 @@ fn a_refusal_keeps_the_image(rt: HostRuntime) -> Result<(), Fail> {
 #[test]
 fn placing(rt: HostRuntime) -> Result<(), Fail> {
     let bytes = image([2, 1, 1, 3, 2, 10, 11, 12]);
-    let mut image = Image::empty();
-    image.check(&bytes)?;
+    let image = Image::try_from(bytes.as_flattened())?;
     let mut words = [7; 5];
     let mut card = WordCard::new(&mut words);
     let request = Request {
@@ -165,15 +156,35 @@ fn placing(rt: HostRuntime) -> Result<(), Fail> {
 #[test]
 fn refused_at_the_last_word(rt: HostRuntime) -> Result<(), Fail> {
     let bytes = image([2, 1, 1, 3, 2, 10, 11, 12]);
-    let mut image = Image::empty();
-    image.check(&bytes)?;
+    let image = Image::try_from(bytes.as_flattened())?;
     let mut words = [7; 4];
     let mut card = WordCard::new(&mut words);
-    let Err(refused) = image.place(&mut card) else {
-        return Err(Fail::new("placed"));
-    };
-    assert_eq!(rt; refused.address, 4);
-    assert_eq!(rt; refused.refusal(), Refusal::NotOpen);
+    assert_eq!(rt; image.place(&mut card), Err(NotPlaced { address: 4 }));
+    assert_eq!(rt; Refusal::from(NotPlaced { address: 4 }), Refusal::NotOpen);
     assert_eq!(rt; words, [7; 4]);
     Ok(())
+}
+
+// Checks the bytes and places the image, and answers the first refusal.
+fn load<C: Cells>(bytes: &[u8], card: &mut C) -> Result<(), Refusal> {
+    Image::try_from(bytes)?.place(card)?;
+    Ok(())
+}
+
+#[test]
+fn loading(rt: HostRuntime) {
+    let right = image([2, 1, 1, 3, 2, 10, 11, 12]);
+    let wrong = image([2, 1, 1, 1, 2, 10, 11, 12]);
+    let mut words = [7; 5];
+    let mut card = WordCard::new(&mut words);
+    assert_eq!(rt; load(wrong.as_flattened(), &mut card), Err(Refusal::Pair));
+    assert_eq!(rt; load(right.as_flattened(), &mut card), Ok(()));
+    let mut few = [7; 4];
+    let mut small = WordCard::new(&mut few);
+    assert_eq!(rt;
+        load(right.as_flattened(), &mut small),
+        Err(Refusal::NotOpen)
+    );
+    assert_eq!(rt; words, [7, 10, 7, 11, 12]);
+    assert_eq!(rt; few, [7; 4]);
 }

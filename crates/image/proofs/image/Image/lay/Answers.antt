@@ -1,13 +1,13 @@
 use Rattle.std.proofs.Common.{rules}
-use Rattle.image.proofs.Laying.{shown, below, open_still, laid_more}
+use Rattle.image.proofs.Laying.{shown, open_still, laid_more}
 use Rattle.image.proofs.image.Image.lay.Goals as goal
 
-pub lay-requires : goal.lay-requires
-lay-requires g c =
-    let here = shown c.args.self.now c.loop-segment.n c.in-Some.segment c.in-Some.ensures in
-    (below here, open_still here _ _ (search rules) c.loop-segment.invariant.1.0)
+pub lay-requires-clause-open : goal.lay-requires-clause-open
+lay-requires-clause-open g c =
+    let here = shown c.args.self.now c.loop-n.n c.segment_at.result c.segment_at.ensures in
+    open_still here _ _ (search rules) c.loop-n.invariant.0
 
-pub loop-segment-preserved : goal.loop-segment-preserved
-loop-segment-preserved g c =
-    let here = shown c.args.self.now c.loop-segment.n c.in-Some.segment c.in-Some.ensures in
-    (search rules, laid_more here _ _ _ c.loop-segment.invariant.1 c.lay.ensures)
+pub loop-n-preserved : goal.loop-n-preserved
+loop-n-preserved g c =
+    let here = shown c.args.self.now c.loop-n.n c.segment_at.result c.segment_at.ensures in
+    laid_more here _ _ _ c.loop-n.invariant c.lay.ensures
