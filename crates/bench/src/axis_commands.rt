@@ -1,6 +1,6 @@
 // The commands of an instruction machine.
 use card::Card;
-use fault_line::dp32_fault_line;
+use fault_line::{Fields, write_line};
 use machine::{Machine, Outcome};
 use refusal::Refusal;
 use std::io;
@@ -13,8 +13,7 @@ pub fn power<C: Card>(rt: &HostRuntime, card: &mut C, axis: u32) -> io::Result<O
             Ok(Some(machine))
         }
         Err(refusal) => {
-            let number = refusal.number();
-            println!(rt; "power refused {number}")?;
+            println!(rt; "power refused {refusal}")?;
             Ok(None)
         }
     }
@@ -48,10 +47,7 @@ pub fn run<C: Card>(
         Ok(Outcome::Done) => println!(rt; "instruction {accepted} done"),
         Ok(Outcome::Ignored) => println!(rt; "instruction {accepted} ignored"),
         Ok(Outcome::Halted) => println!(rt; "instruction {accepted} halted"),
-        Err(refusal) => {
-            let number = refusal.number();
-            println!(rt; "instruction {accepted} refused {number}")
-        }
+        Err(refusal) => println!(rt; "instruction {accepted} refused {refusal}"),
     }
 }
 
@@ -62,12 +58,9 @@ pub fn reset(rt: &HostRuntime, machine: &mut Machine) -> io::Result<()> {
 
 // The registers that are not zero.
 pub fn registers(rt: &HostRuntime, machine: &Machine) -> io::Result<()> {
-    let mut count = 0u32;
-    for register in 0..=255u8 {
-        if machine.register(register) != 0 {
-            count = count.saturating_add(1);
-        }
-    }
+    let count = (0..=255u8)
+        .filter(|register| machine.register(*register) != 0)
+        .count();
     println!(rt; "registers {count}")?;
     for register in 0..=255u8 {
         let word = machine.register(register);
@@ -96,24 +89,26 @@ pub fn fault(rt: &HostRuntime, machine: &Machine) -> io::Result<()> {
     let Some(fault) = machine.fault() else {
         return println!(rt; "fault none");
     };
+    let fields = Fields {
+        axis: fault.axis.into(),
+        stage: fault.stage.into(),
+        instruction: fault.instruction,
+        access: fault.access,
+        cause: fault.cause.into(),
+        origin: fault.origin.address,
+        layer: fault.origin.layer.into(),
+    };
     let mut line = [0u8; 48];
-    let length = dp32_fault_line(
-        fault.axis.number(),
-        fault.stage.number(),
-        fault.instruction,
-        fault.access,
-        fault.cause.number(),
-        fault.origin.address,
-        u32::from(fault.origin.layer),
-        &mut line,
-    );
-    print_line(rt, &line, length)
+    match write_line(fields, &mut line) {
+        Ok(length) => print_line(rt, &line, length),
+        // its fields are right by the fault's type and the buffer is long enough, so none is ever refused
+        Err(refusal) => println!(rt; "fault has no line: {refusal}"),
+    }
 }
 
-// The line's text. Its fields are right by the fault's type and its buffer is long enough, so none is ever refused.
-fn print_line(rt: &HostRuntime, line: &[u8], length: i32) -> io::Result<()> {
-    if let Ok(length) = usize::try_from(length)
-        && let Some(bytes) = line.get(0..length)
+// The line's text, which is ASCII.
+fn print_line(rt: &HostRuntime, line: &[u8], length: usize) -> io::Result<()> {
+    if let Some(bytes) = line.get(..length)
         && let Ok(text) = std::str::from_utf8(bytes)
     {
         return print!(rt; "{text}");

@@ -17,7 +17,8 @@ fn main(rt: HostRuntime) -> anyhow::Result<()> {
     let Some(input) = Input::gather(&rt)? else {
         return Err(anyhow!("a file cannot be read"));
     };
-    let mut desk = Desk::new(&rt, &input);
+    let lines = input.lines(rt.alloc())?;
+    let mut desk = Desk::new(&rt, &lines);
     scenario::play(&mut desk)?;
     if desk.all_right() {
         Ok(())

@@ -1,34 +1,38 @@
 // A scenario: a card, then an axis on it, until the next card.
-use super::cells::Inspection;
+use super::axis_commands;
+use super::cells::{Dump, Load, Look, Place};
 use super::desk::{Desk, Misplaced};
-use super::stack::Task;
-use super::{axis_commands, cells, stack};
-use card::Card;
+use super::stack::{Room, Task, ThreeLayers};
+use card::{BootCard, Card, WordCard};
 use command::{Bottom, Command};
 use layer::Kind;
-use std::{fs, io};
+use std::io;
 
 // A new card, by its kind and how many words it has.
-pub type NewCard = (Bottom, u32);
+#[derive(Clone, Copy)]
+pub struct NewCard {
+    bottom: Bottom,
+    count: u32,
+}
 
 // Carries out the whole input, a scenario at a time. Each begins at a line of its own.
 pub fn play(desk: &mut Desk) -> io::Result<()> {
     let mut next = before_a_card(desk)?;
-    for _ in 0..desk.lines_left() {
-        let Some((bottom, count)) = next else {
+    for _ in 0..desk.turns_left() {
+        let Some(card) = next else {
             break;
         };
-        next = on_card(desk, bottom, count)?;
+        next = on_card(desk, card)?;
     }
     Ok(())
 }
 
 // Up to the first card.
 fn before_a_card(desk: &mut Desk) -> io::Result<Option<NewCard>> {
-    for _ in 0..desk.lines_left() {
+    for _ in 0..desk.turns_left() {
         match desk.next_command()? {
             None => return Ok(None),
-            Some(Command::Card(bottom, count)) => return Ok(Some((bottom, count))),
+            Some(Command::Card(bottom, count)) => return Ok(Some(NewCard { bottom, count })),
             Some(_) => desk.misplaced(Misplaced::NoCard)?,
         }
     }
@@ -51,21 +55,21 @@ pub enum Powered {
 }
 
 // Up to the next card, which is the answer.
-fn on_card(desk: &mut Desk, bottom: Bottom, count: u32) -> io::Result<Option<NewCard>> {
+fn on_card(desk: &mut Desk, card: NewCard) -> io::Result<Option<NewCard>> {
     let heap = desk.rt.alloc();
     let mut memory = Memory {
-        bottom,
-        words: vec![in heap; 0u32; count as usize]?,
+        bottom: card.bottom,
+        words: vec![in heap; 0u32; card.count as usize]?,
         layers: Vec::new(heap),
     };
     println!(desk.rt; "card ok")?;
-    for _ in 0..desk.lines_left() {
+    for _ in 0..desk.turns_left() {
         let axis = match set_up(desk, &mut memory)? {
             SetUp::Power(axis) => axis,
             SetUp::Card(next) => return Ok(Some(next)),
             SetUp::End => return Ok(None),
         };
-        match memory.perform(desk, Task::Power(axis))? {
+        match memory.perform(desk, PowerUp { axis })? {
             Powered::NoAxis => {}
             Powered::Card(next) => return Ok(Some(next)),
             Powered::End => return Ok(None),
@@ -83,35 +87,37 @@ struct Memory {
 }
 
 impl Memory {
-    fn perform(&mut self, desk: &mut Desk, task: Task) -> io::Result<Powered> {
-        stack::perform(desk, self.bottom, &mut self.words, &self.layers, task)
-    }
-
-    fn inspect(&mut self, desk: &mut Desk, inspection: Inspection) -> io::Result<()> {
-        let _ = self.perform(desk, Task::Inspect(inspection))?;
-        Ok(())
+    // Does a task on the whole stack over the words.
+    fn perform<T: Task>(&mut self, desk: &mut Desk, task: T) -> io::Result<T::Answer> {
+        let layers = self.layers.as_slice();
+        match self.bottom {
+            Bottom::Word => {
+                let card = WordCard::new(self.words.as_mut_slice());
+                ThreeLayers::perform(desk, card, layers, task)
+            }
+            Bottom::Boot => {
+                let card = BootCard::new(self.words.as_slice());
+                ThreeLayers::perform(desk, card, layers, task)
+            }
+        }
     }
 }
 
 // Words and layers, and questions about the cells, up to a power-up.
 fn set_up(desk: &mut Desk, memory: &mut Memory) -> io::Result<SetUp> {
-    for _ in 0..desk.lines_left() {
+    for _ in 0..desk.turns_left() {
         let Some(command) = desk.next_command()? else {
             return Ok(SetUp::End);
         };
         match command {
-            Command::Card(bottom, count) => return Ok(SetUp::Card((bottom, count))),
+            Command::Card(bottom, count) => return Ok(SetUp::Card(NewCard { bottom, count })),
             Command::PowerInstruction(axis) => return Ok(SetUp::Power(axis)),
             Command::Words(from, list) => store_words(desk, &mut memory.words, from, &list)?,
             Command::Layer(kind) => add_layer(desk, &mut memory.layers, kind)?,
-            Command::Look(at) => memory.inspect(desk, Inspection::Look(at))?,
-            Command::Memory(from, count) => memory.inspect(desk, Inspection::Memory(from, count))?,
-            Command::Place(at, word) => memory.inspect(desk, Inspection::Place(at, word))?,
-            Command::Load(name) => {
-                if let Some(bytes) = read_file(desk, &name)? {
-                    memory.inspect(desk, Inspection::Load(bytes))?;
-                }
-            }
+            Command::Look(address) => memory.perform(desk, Look(address))?,
+            Command::Memory(from, count) => memory.perform(desk, Dump { from, count })?,
+            Command::Place(address, word) => memory.perform(desk, Place { address, word })?,
+            Command::Load(name) => memory.perform(desk, Load(name))?,
             _ => desk.misplaced(Misplaced::NoAxis)?,
         }
     }
@@ -127,74 +133,59 @@ fn add_layer(desk: &mut Desk, layers: &mut Vec<Kind>, kind: Kind) -> io::Result<
     println!(desk.rt; "layer ok")
 }
 
-// The bytes of a file; a file that cannot be read is reported.
-fn read_file(desk: &mut Desk, name: &[u8]) -> io::Result<Option<Vec<u8>>> {
-    if let Ok(path) = std::str::from_utf8(name)
-        && let Ok(bytes) = fs::read(desk.rt, path)
-    {
-        return Ok(Some(bytes));
-    }
-    desk.misplaced(Misplaced::Unreadable)?;
-    Ok(None)
-}
-
 // Puts words into the memory from an index on, unless they pass its end.
-fn store_words(
-    desk: &mut Desk,
-    memory: &mut Vec<u32>,
-    from: u32,
-    list: &Vec<u32>,
-) -> io::Result<()> {
-    let from = from as usize;
-    if from > memory.len() || list.len() > memory.len() - from {
+fn store_words(desk: &mut Desk, memory: &mut [u32], from: u32, list: &[u32]) -> io::Result<()> {
+    let Some(place) = memory
+        .get_mut(from as usize..)
+        .and_then(|rest| rest.get_mut(..list.len()))
+    else {
         return desk.misplaced(Misplaced::WordsPastMemory);
-    }
-    for (i, word) in list.iter().enumerate() {
-        if let Some(slot) = memory.get_mut(from + i) {
-            *slot = *word;
-        }
-    }
+    };
+    place.copy_from_slice(list);
     println!(desk.rt; "words ok")
 }
 
-// Powers up, and carries out the commands of the axis up to the next card.
-pub fn on_axis<C: Card>(desk: &mut Desk, card: &mut C, axis: u32) -> io::Result<Powered> {
-    let rt = desk.rt;
-    let Some(mut axis) = axis_commands::power(rt, card, axis)? else {
-        return Ok(Powered::NoAxis);
-    };
-    for _ in 0..desk.lines_left() {
-        let Some(command) = desk.next_command()? else {
-            return Ok(Powered::End);
+// Powering an axis up, and then its commands up to the next card.
+#[derive(Drop)]
+struct PowerUp {
+    axis: u32,
+}
+
+impl Task for PowerUp {
+    type Answer = Powered;
+
+    fn perform<C: Card>(self, desk: &mut Desk, card: &mut C) -> io::Result<Powered> {
+        let rt = desk.rt;
+        let Some(mut axis) = axis_commands::power(rt, card, self.axis)? else {
+            return Ok(Powered::NoAxis);
         };
-        match command {
-            Command::Card(bottom, count) => return Ok(Powered::Card((bottom, count))),
-            Command::Words(_, _) => desk.misplaced(Misplaced::WordsAfterPower)?,
-            Command::Layer(_) => desk.misplaced(Misplaced::LayerAfterPower)?,
-            Command::PowerInstruction(number) => {
-                if let Some(next) = axis_commands::power(rt, card, number)? {
-                    axis = next;
+        for _ in 0..desk.turns_left() {
+            let Some(command) = desk.next_command()? else {
+                return Ok(Powered::End);
+            };
+            match command {
+                Command::Card(bottom, count) => {
+                    return Ok(Powered::Card(NewCard { bottom, count }));
                 }
-            }
-            Command::Look(at) => cells::inspect(rt, card, Inspection::Look(at))?,
-            Command::Memory(from, count) => cells::inspect(
-                rt,
-                card,
-                Inspection::Memory(from, count),
-            )?,
-            Command::Place(at, word) => cells::inspect(rt, card, Inspection::Place(at, word))?,
-            Command::Load(name) => {
-                if let Some(bytes) = read_file(desk, &name)? {
-                    cells::inspect(rt, card, Inspection::Load(bytes))?;
+                Command::Words(_, _) => desk.misplaced(Misplaced::WordsAfterPower)?,
+                Command::Layer(_) => desk.misplaced(Misplaced::LayerAfterPower)?,
+                Command::PowerInstruction(number) => {
+                    if let Some(next) = axis_commands::power(rt, card, number)? {
+                        axis = next;
+                    }
                 }
+                Command::Look(address) => Look(address).perform(desk, card)?,
+                Command::Memory(from, count) => Dump { from, count }.perform(desk, card)?,
+                Command::Place(address, word) => Place { address, word }.perform(desk, card)?,
+                Command::Load(name) => Load(name).perform(desk, card)?,
+                Command::Instruction(count) => axis_commands::run(rt, &mut axis, card, count)?,
+                Command::Reset => axis_commands::reset(rt, &mut axis)?,
+                Command::Registers => axis_commands::registers(rt, &axis)?,
+                Command::Flags => axis_commands::flags(rt, &axis)?,
+                Command::Pc => axis_commands::pc(rt, &axis)?,
+                Command::Fault => axis_commands::fault(rt, &axis)?,
             }
-            Command::Instruction(count) => axis_commands::run(rt, &mut axis, card, count)?,
-            Command::Reset => axis_commands::reset(rt, &mut axis)?,
-            Command::Registers => axis_commands::registers(rt, &axis)?,
-            Command::Flags => axis_commands::flags(rt, &axis)?,
-            Command::Pc => axis_commands::pc(rt, &axis)?,
-            Command::Fault => axis_commands::fault(rt, &axis)?,
         }
+        Ok(Powered::End)
     }
-    Ok(Powered::End)
 }

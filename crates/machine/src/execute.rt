@@ -16,7 +16,7 @@ use super::access::{IdleCard, complete};
 use super::fault::{Fault, Stage};
 use super::machine::{Machine, Outcome};
 use card::{AccessFault, Card, Direction, End, Request};
-use isa::{Class, Flags, Form, Instruction, decode};
+use isa::{Answer, Class, Flags, Form, Instruction, decode};
 use refusal::Refusal;
 
 impl Machine {
@@ -56,7 +56,7 @@ impl Machine {
         ensures { Executes C.Cells.meaning (fetched word)
             self.old card.old.card result self.new card.new.card }
     {
-        let instruction = Instruction::from_word(self.word_of(Stage::Fetch, self.pc, word)?);
+        let instruction = Instruction::from(self.word_of(Stage::Fetch, self.pc, word)?);
         let first = self.registers.get(instruction.r1);
         match decode(instruction.opcode).class {
             Class::Arithmetic(operation) => {
@@ -188,7 +188,7 @@ impl Machine {
     }
 
     // Takes a result with its flags, and goes on to the next word.
-    fn latch(&mut self, instruction: Instruction, answer: (u32, bool, bool, bool))
+    fn latch(&mut self, instruction: Instruction, answer: Answer)
         ensures { self.new ≡ latched self.old instruction.r3 answer }
     {
         let (word, v, n, z) = answer;

@@ -39,16 +39,11 @@ impl Machine {
     {
         let axis = Axis::try_from(axis)?;
         card.cancel();
-        let flags = Flags {
-            v: false,
-            n: false,
-            z: false,
-        };
         Ok(Machine {
             axis,
             registers: Registers::new(),
             pc: 0,
-            flags,
+            flags: Flags::default(),
             fault: None,
         })
     }
