@@ -108,6 +108,7 @@ impl Wrong {
     }
 }
 
+// by hand, since the derive of `thiserror` gives no `output`
 impl fmt::Display for Wrong {
     ghost output = { λ w. Some (text_of w) };
 

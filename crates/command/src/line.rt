@@ -6,10 +6,8 @@ ghost use Rattle.command.specs.Words.{before_comment, bad, any_bad};
 pub fn before_comment(line: &[u8]) -> &[u8]
     ensures { result.now ≡ before_comment line.now }
 {
-    match line.iter().position(|b| *b == b'#') {
-        Some(end) => &line[..end],
-        None => line,
-    }
+    let end = line.iter().position(|b| *b == b'#').unwrap_or(line.len());
+    &line[..end]
 }
 
 // Whether a byte may stand in a comment only.

@@ -71,6 +71,7 @@ impl<'a> Words<'a> {
         ensures all { OnOk result (self.new ≡ []) }
     {
         let mut list = Vec::new(heap);
+        // a `for` over `self.by_ref()` leaves `all` open: what it leaves of `self` is not known
         while let Some(word) = self.next() {
             list.push(number(word)?)?;
         }
