@@ -1,2 +1,2 @@
-mod Scans
-mod Bases
+mod Positions
+mod Digits

@@ -1,7 +1,7 @@
+pub mod Commands
 pub mod Keywords
 pub mod Lines
 pub mod Numbers
 pub mod Operands
-pub mod Sentences
 pub mod Texts
 pub mod Words

@@ -1,7 +1,8 @@
 -- The number that a word stands for: decimal digits, or hexadecimal ones after `0x`, up to 4294967295.
 -- A reader must believe that `digit_value` is the value of a digit or letter, capital or small, and 36 of any other
--- byte, and that `value` is the number that digits write, the first one highest.
-use Rattle.std.specs.Prelude.{ℕ, Bool, true, cond, ◌&&◌, List, [], ◌∷◌, take, drop, Ok, Err, Result, nat_le, nat_lt}
+-- byte, and that `digits_value` is the number that digits write, the first one highest.
+use Rattle.std.specs.Prelude.{ℕ, Bool, cond, List, [], ◌∷◌, take, drop, Ok, Err, Result, nat_le, nat_lt}
+use Rattle.std.specs.List.{list_all}
 use Rattle.std.specs.Str.Parse.{digits_value}
 use Rattle.std.specs.Char.{digit_value}
 use Rattle.command.specs.declared.Wrong.{Wrong}
@@ -9,8 +10,7 @@ use Rattle.command.specs.declared.Wrong.TheVariants.{NotANumber, NumberTooLarge}
 use Rattle.command.specs.Words.{spells}
 
 abbrev pub all_digits : ℕ → List ℕ → Bool
-all_digits radix [] = true
-all_digits radix (b ∷ bs) = nat_lt (digit_value b) radix && all_digits radix bs
+all_digits radix bs = list_all (λ b. nat_lt (digit_value b) radix) bs
 
 abbrev pub within : ℕ → Result ℕ Wrong
 within n = cond (nat_le n 4294967295) (Ok n) (Err NumberTooLarge)

@@ -1,5 +1,5 @@
 -- The operands of a command, taken one after the other from the words that follow its first word.
--- A reader must believe that a missing operand, and one that is wrong, is told so.
+-- A reader must believe that a missing operand, and one that is wrong, is reported as that.
 use Rattle.std.specs.Prelude.{◌≡◌, ℕ, ◌<◌, cond, ◌⊎◌, List, [], ◌∷◌, ◌++◌, length, Ok, Err, vec_items, Result, Vec, MatchResult}
 use Rattle.std.specs.Borrow.{Bor}
 use Rattle.std.specs.declared.alloc.Global.{Global}
@@ -8,7 +8,7 @@ use Rattle.command.specs.declared.Wrong.TheVariants.{MissingOperand, UnknownCard
 use Rattle.command.specs.declared.Bottom.{Bottom}
 use Rattle.command.specs.declared.Bottom.TheVariants.{Word, Boot}
 use Rattle.command.specs.Numbers.{number_of}
-use Rattle.command.specs.Words.{words_of, spells}
+use Rattle.command.specs.Words.{spells}
 
 abbrev pub with : {X : Type 0} → Result X Wrong → List (List ℕ) → Result (X × List (List ℕ)) Wrong
 with (Ok x) ws = Ok (x, ws)
@@ -19,14 +19,21 @@ abbrev pub operand_of : List (List ℕ) → Result (ℕ × List (List ℕ)) Wron
 operand_of [] = Err MissingOperand
 operand_of (w ∷ ws) = with (number_of w) ws
 
--- the code has the rest of the line in place of its words
-abbrev pub Took : {X : Type 0} → Result (X × Bor (List ℕ)) Wrong → Result (X × List (List ℕ)) Wrong → Type 0
-Took r s = MatchResult r (λ p. s ≡ Ok (p.0, words_of p.1.now)) (λ e. s ≡ Err e)
+-- r is the operand that s gives, and ws are the words after it
+abbrev pub Takes : {X : Type 0} → Result X Wrong → List (List ℕ) → Result (X × List (List ℕ)) Wrong → Type 0
+Takes r ws s = MatchResult r (λ x. s ≡ Ok (x, ws)) (λ e. s ≡ Err e)
+
+-- r is the first of the words us, and ws are the others
+abbrev pub TakesWord : Result (Bor (List ℕ)) Wrong → List (List ℕ) → List (List ℕ) → Type 0
+TakesWord r ws us = MatchResult r (λ w. us ≡ w.now ∷ ws) (λ e. (us ≡ []) × (e ≡ MissingOperand))
+
+abbrev pub bottom_named : List ℕ → Result Bottom Wrong
+bottom_named w = cond (spells w "word") (Ok Word) (cond (spells w "boot") (Ok Boot) (Err UnknownCard))
 
 -- the bottom card that the words begin with, and the other words
 abbrev pub bottom_of : List (List ℕ) → Result (Bottom × List (List ℕ)) Wrong
 bottom_of [] = Err MissingOperand
-bottom_of (w ∷ ws) = cond (spells w "word") (Ok (Word, ws)) (cond (spells w "boot") (Ok (Boot, ws)) (Err UnknownCard))
+bottom_of (w ∷ ws) = with (bottom_named w) ws
 
 -- the numbers of all the words, after those of ns; the first word that is none decides
 abbrev pub numbers_after : List ℕ → List (List ℕ) → Result (List ℕ) Wrong

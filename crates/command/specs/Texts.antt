@@ -1,5 +1,5 @@
--- What a wrong line is told: plain words for each kind of mistake.
--- A reader must believe that the words fit the mistake.
+-- The text that is printed for each kind of mistake in a line.
+-- A reader must believe that the text fits the mistake.
 use Rattle.std.specs.Prelude.{ℕ, List, codes}
 use Rattle.command.specs.declared.Wrong.{Wrong}
 use Rattle.command.specs.declared.Wrong.TheVariants.{BadByte, UnknownCommand, UnknownCard, UnknownLayer, UnknownMachine}

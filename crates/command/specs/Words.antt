@@ -1,13 +1,13 @@
 -- The words of a line. A `#` starts a comment, and spaces and tabs part the words before it.
 -- A reader must believe that 35 is `#`, 32 the space, 9 the tab and 13 the carriage return.
-use Rattle.std.specs.Prelude.{ℕ, Bool, false, cond, ◌||◌, List, [], ◌∷◌, ◌++◌, codes, ◌==◌, nat_le}
+use Rattle.std.specs.Prelude.{ℕ, Bool, cond, ◌||◌, List, [], ◌∷◌, ◌++◌, codes, ◌==◌, nat_le}
 use Prim.Native.String.{String}
+use Rattle.std.specs.List.{before_first, list_any}
 use Rattle.std.specs.Str.{bytes_eq}
 
 -- what stands before the comment
-abbrev pub spoken : List ℕ → List ℕ
-spoken [] = []
-spoken (b ∷ bs) = cond (b == 35) [] (b ∷ spoken bs)
+abbrev pub before_comment : List ℕ → List ℕ
+before_comment bs = before_first (λ b. b == 35) bs
 
 abbrev pub blank : ℕ → Bool
 blank b = b == 32 || b == 9
@@ -17,8 +17,7 @@ abbrev pub bad : ℕ → Bool
 bad b = b == 13 || nat_le 128 b
 
 abbrev pub any_bad : List ℕ → Bool
-any_bad [] = false
-any_bad (b ∷ bs) = bad b || any_bad bs
+any_bad bs = list_any bad bs
 
 -- a word ends here; no word is empty
 abbrev pub ended : List ℕ → List (List ℕ) → List (List ℕ)

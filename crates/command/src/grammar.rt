@@ -1,187 +1,131 @@
 // What follows the first word of each command.
-ghost use Rattle.std.specs.Prelude.{◌≡◌, ◌+◌, ◌^◌, ◌<◌, length, Some, nat_le};
-ghost use Rattle.command.specs.Words.{words_of};
-ghost use Rattle.command.specs.Sentences.{told, meant, only, Tells, card_of, store_of, layer_of, offset_of, guard_of};
-ghost use Rattle.command.specs.Sentences.{slow_of, load_of, power_of, power_instruction_of};
-ghost use Rattle.command.specs.Sentences.{instruction_of, look_of, memory_of, place_of};
-ghost use Rattle.command.specs.Lines.{sentence_of, Keeps};
+ghost use Rattle.std.specs.Prelude.{◌≡◌, ◌<◌, length, Some, []};
+ghost use Rattle.command.specs.Commands.{parsed, ParsesTo, card_of, store_of, layer_of, slow_of, load_of, power_of};
+ghost use Rattle.command.specs.Commands.{instruction_of, memory_of};
+ghost use Rattle.command.specs.Lines.{operands_of, NeedsMemory, ReadsWords};
 
 use crate::keyword::Keyword;
-use crate::line::{next_word, spells};
-use crate::operands::{bottom, numbers, operand};
-use crate::{Command, Wrong};
+use crate::number::number;
+use crate::words::Words;
+use crate::{Bottom, Command, Wrong};
 use layer::Kind;
 use std::alloc::Global;
 
 const CARD_LIMIT: u32 = 65536;
 
-pub fn sentence(heap: Global, keyword: Keyword, text: &[u8]) -> Result<Command, Wrong>
-    ensures { Tells result (sentence_of keyword (words_of text.now))
-        (Keeps (Some keyword) (words_of text.now)) }
+// The command that all words of a line make; None where there is no word.
+pub fn command(heap: Global, words: &mut Words<'_>) -> Result<Option<Command>, Wrong>
+    ensures { ReadsWords result words.old }
+{
+    let Some(word) = words.next() else {
+        return Ok(None);
+    };
+    let keyword = Keyword::try_from(word)?;
+    Ok(Some(complete(heap, keyword, words)?))
+}
+
+// The command that a keyword and all the words after it make.
+fn complete(heap: Global, keyword: Keyword, words: &mut Words<'_>) -> Result<Command, Wrong>
+    ensures { ParsesTo result [] (operands_of keyword words.old)
+        (NeedsMemory (Some keyword) words.old) }
+{
+    let command = with_operands(heap, keyword, words)?;
+    words.end()?;
+    Ok(command)
+}
+
+// The command that a keyword and its operands make, with the words after them left.
+fn with_operands(heap: Global, keyword: Keyword, words: &mut Words<'_>) -> Result<Command, Wrong>
+    ensures { ParsesTo result words.new (operands_of keyword words.old)
+        (NeedsMemory (Some keyword) words.old) }
 {
     match keyword {
-        Keyword::Card => card(text),
-        Keyword::Words => words(heap, text),
-        Keyword::Layer => layer(text),
-        Keyword::Load => load(heap, text),
-        Keyword::Power => power(text),
-        Keyword::Instruction => instruction(text),
-        Keyword::Reset => only_this(Command::Reset, text),
-        Keyword::Registers => only_this(Command::Registers, text),
-        Keyword::Flags => only_this(Command::Flags, text),
-        Keyword::Pc => only_this(Command::Pc, text),
-        Keyword::Fault => only_this(Command::Fault, text),
-        Keyword::Look => look(text),
-        Keyword::Memory => memory(text),
-        Keyword::Place => place(text),
+        Keyword::Card => card(words),
+        Keyword::Words => store(heap, words),
+        Keyword::Layer => layer(words),
+        Keyword::Load => load(heap, words),
+        Keyword::Power => power(words),
+        Keyword::Instruction => instruction(words),
+        Keyword::Reset => Ok(Command::Reset),
+        Keyword::Registers => Ok(Command::Registers),
+        Keyword::Flags => Ok(Command::Flags),
+        Keyword::Pc => Ok(Command::Pc),
+        Keyword::Fault => Ok(Command::Fault),
+        Keyword::Look => Ok(Command::Look(words.number()?)),
+        Keyword::Memory => memory(words),
+        Keyword::Place => Ok(Command::Place(words.number()?, words.number()?)),
     }
 }
 
-// The command, where no word is left.
-fn only_this(command: Command, rest: &[u8]) -> Result<Command, Wrong>
-    ensures { told result ≡ only (words_of rest.now) (meant command) }
+fn card(words: &mut Words<'_>) -> Result<Command, Wrong>
+    ensures { parsed result words.new ≡ card_of words.old }
 {
-    match next_word(rest) {
-        None => Ok(command),
-        Some(_) => Err(Wrong::ExtraOperand),
-    }
-}
-
-fn card(text: &[u8]) -> Result<Command, Wrong>
-    ensures { told result ≡ card_of (words_of text.now) }
-{
-    let (kind, rest) = bottom(text)?;
-    let (count, rest) = operand(rest)?;
+    let bottom = Bottom::try_from(words.operand()?)?;
+    let count = words.number()?;
     if count > CARD_LIMIT {
         return Err(Wrong::CardTooLarge);
     }
-    only_this(Command::Card(kind, count), rest)
+    Ok(Command::Card(bottom, count))
 }
 
-fn words(heap: Global, text: &[u8]) -> Result<Command, Wrong>
-    ensures { Tells result (store_of (words_of text.now)) (1 < length (words_of text.now)) }
+fn store(heap: Global, words: &mut Words<'_>) -> Result<Command, Wrong>
+    ensures { ParsesTo result words.new (store_of words.old) (1 < length words.old) }
 {
-    let (from, rest) = operand(text)?;
-    let list = numbers(heap, rest)?;
+    let from = words.number()?;
+    let list = words.numbers(heap)?;
     if list.is_empty() {
         return Err(Wrong::MissingOperand);
     }
     Ok(Command::Words(from, list))
 }
 
-fn layer(text: &[u8]) -> Result<Command, Wrong>
-    ensures { told result ≡ layer_of (words_of text.now) }
+fn layer(words: &mut Words<'_>) -> Result<Command, Wrong>
+    ensures { parsed result words.new ≡ layer_of words.old }
 {
-    let Some((kind, rest)) = next_word(text) else {
-        return Err(Wrong::MissingOperand);
-    };
-    if spells(kind, b"offset") {
-        offset(rest)
-    } else if spells(kind, b"guard") {
-        guard(rest)
-    } else if spells(kind, b"slow") {
-        slow(rest)
-    } else {
-        Err(Wrong::UnknownLayer)
+    match words.operand()? {
+        b"offset" => Ok(Command::Layer(Kind::Offset(words.number()?))),
+        b"guard" => Ok(Command::Layer(Kind::Guard(words.number()?, words.number()?))),
+        b"slow" => slow(words),
+        _ => Err(Wrong::UnknownLayer),
     }
 }
 
-fn offset(text: &[u8]) -> Result<Command, Wrong>
-    ensures { told result ≡ offset_of (words_of text.now) }
+fn slow(words: &mut Words<'_>) -> Result<Command, Wrong>
+    ensures { parsed result words.new ≡ slow_of words.old }
 {
-    let (base, rest) = operand(text)?;
-    only_this(Command::Layer(Kind::Offset(base)), rest)
+    let waits = u8::try_from(words.number()?).map_err(|_| Wrong::SlowTooLarge)?;
+    Ok(Command::Layer(Kind::Slow(waits)))
 }
 
-fn guard(text: &[u8]) -> Result<Command, Wrong>
-    ensures { told result ≡ guard_of (words_of text.now) }
+fn load(heap: Global, words: &mut Words<'_>) -> Result<Command, Wrong>
+    ensures { ParsesTo result words.new (load_of words.old) (0 < length words.old) }
 {
-    let (first, rest) = operand(text)?;
-    let (last, rest) = operand(rest)?;
-    only_this(Command::Layer(Kind::Guard(first, last)), rest)
+    Ok(Command::Load(words.operand()?.to_vec(heap)?))
 }
 
-fn slow(text: &[u8]) -> Result<Command, Wrong>
-    ensures { told result ≡ slow_of (words_of text.now) }
+fn power(words: &mut Words<'_>) -> Result<Command, Wrong>
+    ensures { parsed result words.new ≡ power_of words.old }
 {
-    let (waits, rest) = operand(text)?;
-    if waits > 255 {
-        return Err(Wrong::SlowTooLarge);
+    if words.operand()? != b"instruction".as_slice() {
+        return Err(Wrong::UnknownMachine);
     }
-    only_this(Command::Layer(Kind::Slow(waits as u8)), rest)
+    Ok(Command::PowerInstruction(words.number()?))
 }
 
-fn load(heap: Global, text: &[u8]) -> Result<Command, Wrong>
-    ensures { Tells result (load_of (words_of text.now)) (0 < length (words_of text.now)) }
+fn instruction(words: &mut Words<'_>) -> Result<Command, Wrong>
+    ensures { parsed result words.new ≡ instruction_of words.old }
 {
-    let Some((name, rest)) = next_word(text) else {
-        return Err(Wrong::MissingOperand);
-    };
-    let Ok(name) = Vec::from_slice(heap, name) else {
-        return Err(Wrong::NoMemory);
-    };
-    only_this(Command::Load(name), rest)
+    let count = words.next().map_or(Ok(1), number)?;
+    Ok(Command::Instruction(count))
 }
 
-fn power(text: &[u8]) -> Result<Command, Wrong>
-    ensures { told result ≡ power_of (words_of text.now) }
+fn memory(words: &mut Words<'_>) -> Result<Command, Wrong>
+    ensures { parsed result words.new ≡ memory_of words.old }
 {
-    let Some((machine, rest)) = next_word(text) else {
-        return Err(Wrong::MissingOperand);
-    };
-    if spells(machine, b"instruction") {
-        power_instruction(rest)
-    } else {
-        Err(Wrong::UnknownMachine)
-    }
-}
-
-fn power_instruction(text: &[u8]) -> Result<Command, Wrong>
-    ensures { told result ≡ power_instruction_of (words_of text.now) }
-{
-    let (axis, rest) = operand(text)?;
-    only_this(Command::PowerInstruction(axis), rest)
-}
-
-fn instruction(text: &[u8]) -> Result<Command, Wrong>
-    ensures { told result ≡ instruction_of (words_of text.now) }
-{
-    if next_word(text).is_none() {
-        return Ok(Command::Instruction(1));
-    }
-    let (count, rest) = operand(text)?;
-    only_this(Command::Instruction(count), rest)
-}
-
-fn look(text: &[u8]) -> Result<Command, Wrong>
-    ensures { told result ≡ look_of (words_of text.now) }
-{
-    let (address, rest) = operand(text)?;
-    only_this(Command::Look(address), rest)
-}
-
-fn memory(text: &[u8]) -> Result<Command, Wrong>
-    ensures { told result ≡ memory_of (words_of text.now) }
-{
-    let (address, rest) = operand(text)?;
-    let (count, rest) = operand(rest)?;
-    if !ends_in_memory(address, count) {
+    let address = words.number()?;
+    let count = words.number()?;
+    if u64::from(address) + u64::from(count) > 1 << 32 {
         return Err(Wrong::PastLastAddress);
     }
-    only_this(Command::Memory(address, count), rest)
-}
-
-// Whether no cell of so many is past the last address.
-fn ends_in_memory(address: u32, count: u32) -> bool
-    ensures { result ≡ nat_le (address + count) (2 ^ 32) }
-{
-    u64::from(address) + u64::from(count) <= 0x1_0000_0000
-}
-
-fn place(text: &[u8]) -> Result<Command, Wrong>
-    ensures { told result ≡ place_of (words_of text.now) }
-{
-    let (address, rest) = operand(text)?;
-    let (word, rest) = operand(rest)?;
-    only_this(Command::Place(address, word), rest)
+    Ok(Command::Memory(address, count))
 }

@@ -1,8 +1,10 @@
 // The words that commands begin with.
 ghost use Rattle.std.specs.Prelude.{◌≡◌};
+ghost use Rattle.std.specs.Option.{ok_or};
 ghost use Rattle.command.specs.Keywords.{keyword_of};
+ghost use Rattle.command.specs.declared.Wrong.TheVariants.{UnknownCommand};
 
-use crate::line::spells;
+use crate::Wrong;
 
 #[derive(Clone, Copy)]
 pub enum Keyword {
@@ -22,38 +24,28 @@ pub enum Keyword {
     Place,
 }
 
-pub fn find(word: &[u8]) -> Option<Keyword>
-    ensures { result ≡ keyword_of word.now }
-{
-    if spells(word, b"card") {
-        Some(Keyword::Card)
-    } else if spells(word, b"words") {
-        Some(Keyword::Words)
-    } else if spells(word, b"layer") {
-        Some(Keyword::Layer)
-    } else if spells(word, b"load") {
-        Some(Keyword::Load)
-    } else if spells(word, b"power") {
-        Some(Keyword::Power)
-    } else if spells(word, b"instruction") {
-        Some(Keyword::Instruction)
-    } else if spells(word, b"reset") {
-        Some(Keyword::Reset)
-    } else if spells(word, b"registers") {
-        Some(Keyword::Registers)
-    } else if spells(word, b"flags") {
-        Some(Keyword::Flags)
-    } else if spells(word, b"pc") {
-        Some(Keyword::Pc)
-    } else if spells(word, b"fault") {
-        Some(Keyword::Fault)
-    } else if spells(word, b"look") {
-        Some(Keyword::Look)
-    } else if spells(word, b"memory") {
-        Some(Keyword::Memory)
-    } else if spells(word, b"place") {
-        Some(Keyword::Place)
-    } else {
-        None
+impl TryFrom<&[u8]> for Keyword {
+    type Error = Wrong;
+
+    ghost try_from_gives = { λ word r. r ≡ ok_or (keyword_of word.now) UnknownCommand };
+
+    fn try_from(word: &[u8]) -> Result<Self, Wrong> {
+        match word {
+            b"card" => Ok(Keyword::Card),
+            b"words" => Ok(Keyword::Words),
+            b"layer" => Ok(Keyword::Layer),
+            b"load" => Ok(Keyword::Load),
+            b"power" => Ok(Keyword::Power),
+            b"instruction" => Ok(Keyword::Instruction),
+            b"reset" => Ok(Keyword::Reset),
+            b"registers" => Ok(Keyword::Registers),
+            b"flags" => Ok(Keyword::Flags),
+            b"pc" => Ok(Keyword::Pc),
+            b"fault" => Ok(Keyword::Fault),
+            b"look" => Ok(Keyword::Look),
+            b"memory" => Ok(Keyword::Memory),
+            b"place" => Ok(Keyword::Place),
+            _ => Err(Wrong::UnknownCommand),
+        }
     }
 }

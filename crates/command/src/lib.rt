@@ -3,25 +3,42 @@
 
 ghost use Rattle.std.specs.Prelude.{◌≡◌, Some};
 ghost use Rattle.command.specs.Lines.{Reads};
+ghost use Rattle.command.specs.Operands.{bottom_named};
 ghost use Rattle.command.specs.Texts.{text_of};
+ghost use Rattle.command.specs.declared.Wrong.TheVariants.{NoMemory};
 
-use grammar::sentence;
 use layer::Kind;
-use line::{before_comment, has_bad_byte, next_word};
-use std::alloc::Global;
+use line::{before_comment, has_bad_byte};
+use std::alloc::{AllocError, AllocFailed, Global};
+use std::error::Error;
 use std::fmt;
+use words::Words;
 
 mod grammar;
 mod keyword;
 mod line;
 mod number;
-mod operands;
+mod words;
 
 // The card at the bottom of a stack.
 #[derive(Clone, Copy, Debug)]
 pub enum Bottom {
     Word,
     Boot,
+}
+
+impl TryFrom<&[u8]> for Bottom {
+    type Error = Wrong;
+
+    ghost try_from_gives = { λ word r. r ≡ bottom_named word.now };
+
+    fn try_from(word: &[u8]) -> Result<Self, Wrong> {
+        match word {
+            b"word" => Ok(Bottom::Word),
+            b"boot" => Ok(Bottom::Boot),
+            _ => Err(Wrong::UnknownCard),
+        }
+    }
 }
 
 #[derive(Debug, Drop)]
@@ -91,11 +108,30 @@ impl Wrong {
     }
 }
 
+// by hand, since the derive of `thiserror` gives no `output`
 impl fmt::Display for Wrong {
     ghost output = { λ w. Some (text_of w) };
 
     fn fmt<W: fmt::Write>(&self, f: &mut fmt::Formatter<W>) -> fmt::Result {
         f.write_str(self.text())
+    }
+}
+
+impl Error for Wrong {}
+
+impl From<AllocError> for Wrong {
+    ghost from_gives = { λ _ w. w ≡ NoMemory };
+
+    fn from(_error: AllocError) -> Self {
+        Self::NoMemory
+    }
+}
+
+impl<T: Drop> From<AllocFailed<T>> for Wrong {
+    ghost from_gives = { λ _ w. w ≡ NoMemory };
+
+    fn from(failed: AllocFailed<T>) -> Self {
+        Self::from(AllocError::from(failed))
     }
 }
 
@@ -108,11 +144,5 @@ pub fn read(heap: Global, line: &[u8]) -> Result<Option<Command>, Wrong>
     if has_bad_byte(text) {
         return Err(Wrong::BadByte);
     }
-    let Some((word, rest)) = next_word(text) else {
-        return Ok(None);
-    };
-    let Some(name) = keyword::find(word) else {
-        return Err(Wrong::UnknownCommand);
-    };
-    Ok(Some(sentence(heap, name, rest)?))
+    grammar::command(heap, &mut Words::new(text))
 }

@@ -1,29 +1,26 @@
 // The number that a word stands for.
 ghost use Rattle.std.specs.Prelude.{◌≡◌, ◌≤◌};
-ghost use Rattle.command.specs.Numbers.{number_of, number_in_base};
+ghost use Rattle.command.specs.Numbers.{all_digits, number_of, number_in_base};
 
 use crate::Wrong;
+
+fn are_digits(word: &[u8], radix: u32) -> bool
+    requires { (2 ≤ radix) × (radix ≤ 36) }
+    ensures { result ≡ all_digits radix word.now }
+{
+    word.iter().all(|b| char::from(*b).is_digit(radix))
+}
 
 fn in_base(word: &[u8], radix: u32) -> Result<u32, Wrong>
     requires { (2 ≤ radix) × (radix ≤ 36) }
     ensures { result ≡ number_in_base radix word.now }
 {
-    if word.is_empty() {
+    if word.is_empty() || !are_digits(word, radix) {
         return Err(Wrong::NotANumber);
     }
-    let mut n = 0u64;
-    for b in word {
-        let Some(d) = char::from(*b).to_digit(radix) else {
-            return Err(Wrong::NotANumber);
-        };
-        n = n
-            .saturating_mul(u64::from(radix))
-            .saturating_add(u64::from(d));
-    }
-    match u32::try_from(n) {
-        Ok(n) => Ok(n),
-        Err(_) => Err(Wrong::NumberTooLarge),
-    }
+    // digits are ASCII, so `unwrap` is proved
+    let digits = str::from_utf8(word).unwrap();
+    u32::from_str_radix(digits, radix).map_err(|_| Wrong::NumberTooLarge)
 }
 
 pub fn number(word: &[u8]) -> Result<u32, Wrong>

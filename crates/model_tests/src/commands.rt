@@ -1,5 +1,6 @@
 // Lines, and what `read` answers.
-use command::read;
+use command::{Bottom, Wrong, read};
+use std::alloc::{AllocError, AllocFailed};
 use std::test::Fail;
 
 static LINES: [(&[u8], &str); 99] = [
@@ -125,5 +126,22 @@ fn lines_are_read(rt: HostRuntime) -> Result<(), Fail> {
         let found = format!(in rt.alloc(); "{:?}", read(rt.alloc(), *line))?;
         assert_eq!(rt; found.as_str(), *expected);
     }
+    Ok(())
+}
+
+#[test]
+fn cards_have_names(rt: HostRuntime) -> Result<(), Fail> {
+    let boot = format!(in rt.alloc(); "{:?}", Bottom::try_from(b"boot".as_slice()))?;
+    assert_eq!(rt; boot.as_str(), "Ok(Boot)");
+    let capital = format!(in rt.alloc(); "{:?}", Bottom::try_from(b"Boot".as_slice()))?;
+    assert_eq!(rt; capital.as_str(), "Err(UnknownCard)");
+    Ok(())
+}
+
+#[test]
+fn lack_of_memory_is_a_mistake(rt: HostRuntime) -> Result<(), Fail> {
+    let failed = AllocFailed { value: 7u32 };
+    let text = format!(in rt.alloc(); "{}, {}", Wrong::from(AllocError), Wrong::from(failed))?;
+    assert_eq!(rt; text.as_str(), "no memory is left, no memory is left");
     Ok(())
 }

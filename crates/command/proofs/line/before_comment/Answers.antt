@@ -1,16 +1,13 @@
-use Rattle.std.proofs.Common.{take, ap, ◌∙◌, arith}
-use Rattle.command.proofs.Scans.{spoken_stops, spoken_goes, spoken_all}
+use Rattle.std.proofs.Common.{◌≡◌, ◌==◌, length, take, ap, ◌∙◌, rules, tests}
+use Rattle.std.specs.List.{position}
+use Rattle.std.specs.Option.{unwrap_or}
+use Rattle.std.proofs.lemmas.Iterator.{YieldsList-from_slice}
+use Rattle.std.proofs.lemmas.Iterator.Search.{position_from_yields_List}
+use Rattle.command.proofs.Positions.{or_length}
 use Rattle.command.proofs.line.before_comment.Goals as goal
 
-pub returns-then-b-eq35 : goal.returns-then-b-eq35
-returns-then-b-eq35 c =
-    let xs = c.args.line.now in
-    ap (λ n. take n xs) (omega arith)
-    ∙ spoken_stops xs c.loop-i.i c.loop-i-test.true c.if-b-eq35.true c.loop-i.invariant
-
-pub loop-i-preserved : goal.loop-i-preserved
-loop-i-preserved c =
-    spoken_goes c.args.line.now c.loop-i.i c.loop-i-test.true c.if-b-eq35.false c.loop-i.invariant
-
 pub returns : goal.returns
-returns c = spoken_all c.args.line.now c.loop-i.i c.loop-i-test.false c.loop-i.invariant
+returns c =
+    let xs = c.args.line.now in
+    let at : c.position.result ≡ position (λ b. b == 35) xs = position_from_yields_List (λ b. b == 35) _ _ c.position.result c.position.ensures.ran (YieldsList-from_slice xs (cc)) (λ x b q k. search (rules, tests)) in
+    ap (λ n. take n xs) (c.unwrap_or-end.ensures ∙ ap (λ o. unwrap_or o (length xs)) at ∙ or_length (λ b. b == 35) xs)

@@ -1,30 +1,25 @@
-use Rattle.std.proofs.Common.{◌*◌, ◌<◌, ◌≤◌, Ok, sym, ap, ◌∙◌, subst, arith}
-use Rattle.std.specs.Char.{digit_value}
-use Rattle.std.proofs.lemmas.Bool.{eqb-false}
-use Rattle.command.proofs.Bases.{capped, no_digit, one_more, fits, too_large}
+use Rattle.std.proofs.Common.{◌≡◌, sym, rules}
+use Rattle.std.proofs.lemmas.Bool.{eqb-true, eqb-false}
+use Rattle.std.proofs.lemmas.Result.{MatchResult-at_ok, MatchResult-weaker}
+use Rattle.command.proofs.Digits.{not_digits, no_digits, is_text, parsed}
 use Rattle.command.proofs.number.in_base.Goals as goal
+use Rattle.command.proofs.number.in_base.Goals.{then-is_empty-via-then-is_empty, then-is_empty-via-else-is_empty+then-not-are_digits}
 
-pub loop-b-preserved : goal.loop-b-preserved
-loop-b-preserved c =
-    let told = c.in-Some.ensures.value in
-    let low = subst (λ b. digit_value b < c.args.radix) c.from.ensures told.0 in
-    let product = c.saturating_mul.ensures ∙ ap (λ k. capped (c.loop-b.n * k)) c.from-in-loop-b.ensures in
-    let digit = c.from-in-loop-b-2.ensures ∙ told.1 ∙ ap digit_value c.from.ensures in
-    one_more c.loop-b.invariant _ _ _ c.loop-b-test.true c.requires.0 low product digit c.saturating_add-n.ensures
+pub returns-then-is_empty : goal.returns-then-is_empty
+returns-then-is_empty c =
+    elim c.then-is_empty.branch [
+      | then-is_empty-via-then-is_empty w ↦ no_digits c.args.radix c.args.word.now (eqb-true _ 0 (sym w.if-is_empty.ensures))
+      | then-is_empty-via-else-is_empty+then-not-are_digits w ↦ not_digits c.args.radix c.args.word.now (sym w.if-not-are_digits.ensures)
+    ]
 
-pub returns-in_default : goal.returns-in_default
-returns-in_default c =
-    let high = c.in_default.ensures.value in
-    no_digit c.loop-b.invariant c.loop-b-test.true
-    (subst (λ b. c.args.radix ≤ digit_value b) c.from.ensures (omega (arith, high)))
+pub unwrap-digits-requires : goal.unwrap-digits-requires
+unwrap-digits-requires c =
+    is_text c.args.radix c.args.word.now c.from_utf8.result _ _ c.requires.1 (sym c.if-not-are_digits.ensures) c.from_utf8.ensures.cases
 
-pub returns-in-Ok : goal.returns-in-Ok
-returns-in-Ok c =
-    let told = c.in-Ok.ensures in
-    let some = eqb-false _ 0 (sym c.if-is_empty.ensures) in
-    ap Ok told.1 ∙ fits c.loop-b.invariant c.loop-b-test.false (omega (arith, some)) told.0
-
-pub returns-in-Err : goal.returns-in-Err
-returns-in-Err c =
-    let some = eqb-false _ 0 (sym c.if-is_empty.ensures) in
-    too_large c.loop-b.invariant c.loop-b-test.false (omega (arith, some)) (omega (arith, c.in-Err.ensures))
+pub returns : goal.returns
+returns c =
+    let xs = c.args.word.now in
+    let text : c.unwrap-digits.result.now ≡ xs = (MatchResult-at_ok _ _ c.unwrap-digits.result c.unwrap-digits.ensures c.from_utf8.ensures.cases).0 in
+    parsed c.args.radix xs c.from_str_radix.result c.map_err.result c.requires.1 (eqb-false _ 0 (sym c.if-is_empty.ensures))
+    (sym c.if-not-are_digits.ensures) (rw text at c.from_str_radix.ensures.value)
+    (MatchResult-weaker c.from_str_radix.result c.map_err.ensures.cases (λ n e. e) (λ d e. search rules))
