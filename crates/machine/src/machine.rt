@@ -13,7 +13,7 @@ use isa::Flags;
 use refusal::Refusal;
 
 // What an accepted instruction answers.
-#[derive(Clone, Copy)]
+#[derive(Clone, Copy, PartialEq, Eq, Debug)]
 pub enum Outcome {
     Done,
     // an unknown opcode

@@ -1,85 +1,82 @@
 // The two bottom cards at their ends, and calls out of order.
-use card::{BootCard, Card, Cause, Cell, Cells, Direction, End, Polled, Request, WordCard};
+use card::{
+    AccessFault, BootCard, Card, Cause, Cell, Cells, Direction, End, Origin, Request, WordCard,
+};
 use refusal::Refusal;
 use std::process::Abort;
 use std::test::Fail;
 
-// Whether a cell is absent, with this address and no layer as origin.
-fn absent_at(cell: Cell, address: u32) -> bool {
-    match cell {
-        Cell::Absent(origin) => origin.address == address && origin.layer == 0,
-        _ => false,
-    }
+// The card itself, as the origin of a refusal.
+fn here(address: u32) -> Origin {
+    Origin { address, layer: 0 }
 }
 
-// A whole transfer: how it ends, if it does so at its first poll.
-fn access<C: Card>(card: &mut C, direction: Direction, address: u32) -> Option<End> {
-    let Ok(0) = card.begin(Request { direction, address }) else {
-        return None;
-    };
-    match card.poll() {
-        Ok(Polled::Ended(end)) => Some(end),
-        _ => None,
+fn fault(cause: Cause, address: u32) -> End {
+    let origin = here(address);
+    Err(AccessFault { cause, origin })
+}
+
+// A whole transfer without waits: how it ends.
+fn access<C: Card>(card: &mut C, direction: Direction, address: u32) -> Result<End, Fail> {
+    let waits = card.begin(Request { direction, address })?;
+    let end = card.poll()?.ok_or("the transfer waits")?;
+    if waits == 0 {
+        Ok(end)
+    } else {
+        Err(Fail::new("waits"))
     }
 }
 
 #[test]
-fn word_card_at_its_ends(rt: HostRuntime) {
+fn word_card_at_its_ends(rt: HostRuntime) -> Result<(), Fail> {
     let mut words = [5, 6, 7];
     let mut card = WordCard::new(&mut words);
-    assert!(rt; matches!(card.look(0), Cell::Open(5)) && matches!(card.look(2), Cell::Open(7)));
-    assert!(rt; absent_at(card.look(3), 3) && absent_at(card.look(0xffff_ffff), 0xffff_ffff));
-    assert!(rt;
-        matches!(
-            access(&mut card, Direction::Write(9), 2),
-            Some(End::Word(9))
-        )
+    assert_eq!(rt; card.look(0), Cell::Open(5));
+    assert_eq!(rt; card.look(2), Cell::Open(7));
+    assert_eq!(rt; card.look(3), Cell::Absent(here(3)));
+    assert_eq!(rt; card.look(0xffff_ffff), Cell::Absent(here(0xffff_ffff)));
+    assert_eq!(rt; access(&mut card, Direction::Write(9), 2)?, Ok(9));
+    assert_eq!(rt; access(&mut card, Direction::Read, 2)?, Ok(9));
+    assert_eq!(rt;
+        access(&mut card, Direction::Write(9), 3)?,
+        fault(Cause::Absent, 3)
     );
-    assert!(rt; matches!(access(&mut card, Direction::Read, 2), Some(End::Word(9))));
-    assert!(rt;
-        matches!(
-            access(&mut card, Direction::Write(9), 3),
-            Some(End::Fault(Cause::Absent, _))
-        )
-    );
-    assert!(rt; card.place(0, 4).is_ok());
-    assert!(rt; matches!(card.place(3, 4), Err(Refusal::NotOpen)));
-    assert!(rt; card.patience() == 0);
-    assert!(rt; words[0] == 4 && words[1] == 6 && words[2] == 9);
+    card.place(0, 4)?;
+    assert_eq!(rt; card.place(3, 4), Err(Refusal::NotOpen));
+    assert_eq!(rt; card.patience(), 0);
+    assert_eq!(rt; words, [4, 6, 9]);
+    Ok(())
 }
 
 #[test]
 fn largest_cards(rt: HostRuntime) -> Result<(), Fail> {
     let mut words = vec![in rt.alloc(); 1u32; 65_537]?;
     let card = BootCard::new(words.as_slice());
-    assert!(rt;
-        matches!(card.look(65_535), Cell::Fixed(1, _)) && absent_at(card.look(65_536), 65_536)
-    );
+    assert_eq!(rt; card.look(65_535), Cell::Fixed(1, here(65_535)));
+    assert_eq!(rt; card.look(65_536), Cell::Absent(here(65_536)));
     let mut card = WordCard::new(words.as_mut_slice());
-    assert!(rt; matches!(card.look(65_535), Cell::Open(1)) && absent_at(card.look(65_536), 65_536));
-    assert!(rt; card.place(65_535, 2).is_ok());
-    assert!(rt; matches!(card.place(65_536, 2), Err(Refusal::NotOpen)));
+    assert_eq!(rt; card.look(65_535), Cell::Open(1));
+    assert_eq!(rt; card.look(65_536), Cell::Absent(here(65_536)));
+    card.place(65_535, 2)?;
+    assert_eq!(rt; card.place(65_536, 2), Err(Refusal::NotOpen));
     Ok(())
 }
 
 #[test]
 fn boot_card_is_fixed(rt: HostRuntime) -> Result<(), Fail> {
     let mut card = BootCard::new(&[5, 6]);
-    assert!(rt; matches!(access(&mut card, Direction::Read, 1), Some(End::Word(6))));
-    assert!(rt;
-        matches!(
-            access(&mut card, Direction::Read, 2),
-            Some(End::Fault(Cause::Absent, _))
-        )
+    assert_eq!(rt; access(&mut card, Direction::Read, 1)?, Ok(6));
+    assert_eq!(rt;
+        access(&mut card, Direction::Read, 2)?,
+        fault(Cause::Absent, 2)
     );
-    match access(&mut card, Direction::Write(7), 1) {
-        Some(End::Fault(Cause::Fixed, origin)) => assert!(rt;
-            origin.address == 1 && origin.layer == 0
-        ),
-        _ => return Err(Fail::new("a write to a fixed cell")),
-    }
-    assert!(rt; matches!(card.place(1, 7), Err(Refusal::NotOpen)));
-    assert!(rt; matches!(card.look(1), Cell::Fixed(6, _)) && card.patience() == 0);
+    assert_eq!(rt;
+        access(&mut card, Direction::Write(7), 1)?,
+        fault(Cause::Fixed, 1)
+    );
+    assert_eq!(rt; card.place(1, 7), Err(Refusal::NotOpen));
+    assert_eq!(rt; card.look(1), Cell::Fixed(6, here(1)));
+    assert_eq!(rt; card.patience(), 0);
     Ok(())
 }
 
@@ -89,19 +86,16 @@ fn out_of_order<C: Card>(rt: &impl Abort, card: &mut C, placed: bool) -> Result<
         direction: Direction::Read,
         address: 0,
     };
-    assert!(rt; matches!(card.poll(), Err(Refusal::Transfer)));
-    assert!(rt; card.begin(request).is_ok());
-    assert!(rt; matches!(card.begin(request), Err(Refusal::Transfer)));
-    assert!(rt; card.place(0, 8).is_ok() == placed);
+    assert_eq!(rt; card.poll(), Err(Refusal::Transfer));
+    card.begin(request)?;
+    assert_eq!(rt; card.begin(request), Err(Refusal::Transfer));
+    assert_eq!(rt; card.place(0, 8).is_ok(), placed);
     let word = if placed { 8 } else { 5 };
-    match card.poll() {
-        Ok(Polled::Ended(End::Word(read))) => assert!(rt; read == word),
-        _ => return Err(Fail::new("the read does not end")),
-    }
-    assert!(rt; matches!(card.poll(), Err(Refusal::Transfer)));
-    assert!(rt; card.begin(request).is_ok());
+    assert_eq!(rt; card.poll(), Ok(Some(Ok(word))));
+    assert_eq!(rt; card.poll(), Err(Refusal::Transfer));
+    card.begin(request)?;
     card.cancel();
-    assert!(rt; matches!(card.poll(), Err(Refusal::Transfer)));
+    assert_eq!(rt; card.poll(), Err(Refusal::Transfer));
     Ok(())
 }
 

@@ -3,7 +3,7 @@
 ghost use Rattle.std.specs.Prelude.{◌≡◌, ◌≤◌};
 ghost use Rattle.model_tests.specs.Edge.{edge_meaning, patient};
 
-use card::{Card, Cell, Cells, Direction, Origin, Polled, Request, Transfer};
+use card::{Card, Cell, Cells, End, Origin, Request, Transfer, finish};
 use refusal::Refusal;
 
 #[derive(Drop)]
@@ -55,23 +55,13 @@ impl Card for EdgeCard {
         Ok(waits)
     }
 
-    fn poll(&mut self) -> Result<Polled, Refusal> {
-        let Some(transfer) = self.transfer.take() else {
-            return Err(Refusal::Transfer);
-        };
-        let request = transfer.request;
-        if transfer.waits > 0 {
-            self.transfer = Some(Transfer {
-                request,
-                waits: transfer.waits - 1,
-            });
-            return Ok(Polled::Waiting);
+    fn poll(&mut self) -> Result<Option<End>, Refusal> {
+        let transfer = self.transfer.take().ok_or(Refusal::Transfer)?;
+        self.transfer = transfer.after_wait();
+        if self.transfer.is_some() {
+            return Ok(None);
         }
-        let cell = self.look(request.address);
-        if let (Direction::Write(word), Cell::Open(_)) = (request.direction, cell) {
-            let _ = self.place(request.address, word);
-        }
-        Ok(Polled::Ended(request.direction.end(cell)))
+        Ok(Some(finish(self, transfer.request)))
     }
 
     fn cancel(&mut self) {

@@ -20,12 +20,10 @@ fn branch_at_the_last_address(rt: HostRuntime) -> Result<(), Fail> {
         [0x5100_00ff, 0, 0, 0, 0, 0, 0, 0],
         [0, 0, 0, 0, 0, 0, 0, 0x4000_0000],
     );
-    let Ok(mut axis) = Machine::power_up(1, &mut card) else {
-        return Err(Fail::new("power-up"));
-    };
-    assert!(rt; matches!(axis.instruction(&mut card), Ok(Outcome::Done)));
+    let mut axis = Machine::power_up(1, &mut card)?;
+    assert_eq!(rt; axis.instruction(&mut card), Ok(Outcome::Done));
     assert!(rt; axis.pc() == 0xffff_ffff);
-    assert!(rt; matches!(axis.instruction(&mut card), Ok(Outcome::Done)));
+    assert_eq!(rt; axis.instruction(&mut card), Ok(Outcome::Done));
     assert!(rt; axis.pc() == 0x5100_0100);
     Ok(())
 }
@@ -36,25 +34,21 @@ fn load_and_store_at_the_last_addresses(rt: HostRuntime) -> Result<(), Fail> {
     let first = [0x5100_00fe, 0x5100_00ff, 0, 0, 0, 0, 0, 0];
     let last = [0, 0, 0, 0, 0, 0, 0x2102_0000, 0x2002_0000];
     let mut card = over(first, last);
-    let Ok(mut axis) = Machine::power_up(2, &mut card) else {
-        return Err(Fail::new("power-up"));
-    };
+    let mut axis = Machine::power_up(2, &mut card)?;
     // at 0xfffffffe the store's displacement is the word at 0xffffffff, a fixed cell's address
-    assert!(rt; matches!(axis.instruction(&mut card), Ok(Outcome::Done)));
-    assert!(rt; matches!(axis.instruction(&mut card), Ok(Outcome::Halted)));
+    assert_eq!(rt; axis.instruction(&mut card), Ok(Outcome::Done));
+    assert_eq!(rt; axis.instruction(&mut card), Ok(Outcome::Halted));
     assert!(rt; axis.pc() == 0xffff_fffe);
-    let Some(fault) = axis.fault() else {
-        return Err(Fail::new("no fault"));
-    };
-    assert!(rt; fault.stage.number() == 4 && fault.cause.number() == 2);
+    let fault = axis.fault().ok_or("no fault")?;
+    assert!(rt; u32::from(fault.stage) == 4 && u32::from(fault.cause) == 2);
     assert!(rt; fault.instruction == 0xffff_fffe && fault.access == 0x2002_0000);
     // the load at 0xffffffff has its displacement at 0
     axis.reset();
-    assert!(rt; card.place(0, 0x5100_00ff).is_ok());
-    assert!(rt; matches!(axis.instruction(&mut card), Ok(Outcome::Done)));
+    card.place(0, 0x5100_00ff)?;
+    assert_eq!(rt; axis.instruction(&mut card), Ok(Outcome::Done));
     assert!(rt; axis.pc() == 0xffff_ffff);
-    assert!(rt; card.place(0, 1).is_ok());
-    assert!(rt; matches!(axis.instruction(&mut card), Ok(Outcome::Done)));
+    card.place(0, 1)?;
+    assert_eq!(rt; axis.instruction(&mut card), Ok(Outcome::Done));
     assert!(rt; axis.pc() == 1);
     assert!(rt; axis.register(2) == 0x5100_00ff);
     Ok(())
@@ -64,21 +58,19 @@ fn load_and_store_at_the_last_addresses(rt: HostRuntime) -> Result<(), Fail> {
 #[test]
 fn foreign_transfer(rt: HostRuntime) -> Result<(), Fail> {
     let mut card = over([0x0800_0000, 0, 0, 0, 0, 0, 0, 0], [0; 8]);
-    let Ok(mut axis) = Machine::power_up(3, &mut card) else {
-        return Err(Fail::new("power-up"));
-    };
+    let mut axis = Machine::power_up(3, &mut card)?;
     let request = Request {
         direction: Direction::Read,
         address: 5,
     };
-    assert!(rt; matches!(card.begin(request), Ok(1)));
-    assert!(rt; matches!(axis.instruction(&mut card), Err(Refusal::Transfer)));
+    assert_eq!(rt; card.begin(request), Ok(1));
+    assert_eq!(rt; axis.instruction(&mut card), Err(Refusal::Transfer));
     assert!(rt; axis.pc() == 0);
-    assert!(rt; matches!(card.begin(request), Err(Refusal::Transfer)));
+    assert_eq!(rt; card.begin(request), Err(Refusal::Transfer));
     assert!(rt; matches!(Machine::power_up(4, &mut card), Err(Refusal::Axis)));
-    assert!(rt; matches!(card.begin(request), Err(Refusal::Transfer)));
+    assert_eq!(rt; card.begin(request), Err(Refusal::Transfer));
     assert!(rt; Machine::power_up(1, &mut card).is_ok());
-    assert!(rt; matches!(axis.instruction(&mut card), Ok(Outcome::Ignored)));
+    assert_eq!(rt; axis.instruction(&mut card), Ok(Outcome::Ignored));
     assert!(rt; axis.pc() == 1);
     Ok(())
 }
@@ -88,20 +80,16 @@ fn foreign_transfer(rt: HostRuntime) -> Result<(), Fail> {
 fn past_the_last_address(rt: HostRuntime) -> Result<(), Fail> {
     let first = [0x5100_00fe, 0, 0, 0, 0, 0, 0, 0];
     let mut card = over(first, [0, 0, 0, 0, 0, 0, 0x2103_0000, 0x0000_0005]);
-    let Ok(mut axis) = Machine::power_up(1, &mut card) else {
-        return Err(Fail::new("power-up"));
-    };
-    assert!(rt; matches!(axis.instruction(&mut card), Ok(Outcome::Done)));
+    let mut axis = Machine::power_up(1, &mut card)?;
+    assert_eq!(rt; axis.instruction(&mut card), Ok(Outcome::Done));
     assert!(rt; axis.pc() == 0xffff_fffe);
-    assert!(rt; card.place(5, 9).is_ok());
-    assert!(rt; matches!(axis.instruction(&mut card), Ok(Outcome::Done)));
+    card.place(5, 9)?;
+    assert_eq!(rt; axis.instruction(&mut card), Ok(Outcome::Done));
     assert!(rt; axis.pc() == 0 && matches!(card.look(5), Cell::Open(0)));
     let mut card = over([0x5100_00ff, 0, 0, 0, 0, 0, 0, 0], [0x1004_0006; 8]);
-    let Ok(mut axis) = Machine::power_up(1, &mut card) else {
-        return Err(Fail::new("power-up"));
-    };
-    assert!(rt; matches!(axis.instruction(&mut card), Ok(Outcome::Done)));
-    assert!(rt; matches!(axis.instruction(&mut card), Ok(Outcome::Done)));
+    let mut axis = Machine::power_up(1, &mut card)?;
+    assert_eq!(rt; axis.instruction(&mut card), Ok(Outcome::Done));
+    assert_eq!(rt; axis.instruction(&mut card), Ok(Outcome::Done));
     assert!(rt; axis.pc() == 0 && axis.register(4) == 6);
     Ok(())
 }
@@ -110,10 +98,8 @@ fn past_the_last_address(rt: HostRuntime) -> Result<(), Fail> {
 #[test]
 fn halted_before_busy(rt: HostRuntime) -> Result<(), Fail> {
     let mut card = over([0x2101_0000, 100, 0, 0, 0, 0, 0, 0], [0; 8]);
-    let Ok(mut axis) = Machine::power_up(1, &mut card) else {
-        return Err(Fail::new("power-up"));
-    };
-    assert!(rt; matches!(axis.instruction(&mut card), Ok(Outcome::Halted)));
+    let mut axis = Machine::power_up(1, &mut card)?;
+    assert_eq!(rt; axis.instruction(&mut card), Ok(Outcome::Halted));
     assert!(rt;
         card.begin(Request {
             direction: Direction::Read,
@@ -121,8 +107,8 @@ fn halted_before_busy(rt: HostRuntime) -> Result<(), Fail> {
         })
         .is_ok()
     );
-    assert!(rt; matches!(axis.instruction(&mut card), Err(Refusal::Halted)));
+    assert_eq!(rt; axis.instruction(&mut card), Err(Refusal::Halted));
     axis.reset();
-    assert!(rt; matches!(axis.instruction(&mut card), Err(Refusal::Transfer)));
+    assert_eq!(rt; axis.instruction(&mut card), Err(Refusal::Transfer));
     Ok(())
 }

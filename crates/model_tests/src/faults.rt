@@ -12,28 +12,24 @@ fn faults_on(
     expected: (u32, u32, u32, u32),
 ) -> Result<(), Fail> {
     let mut card = WordCard::new(words);
-    let Ok(mut axis) = Machine::power_up(2, &mut card) else {
-        return Err(Fail::new("power-up"));
-    };
+    let mut axis = Machine::power_up(2, &mut card)?;
     for _ in 0..16 {
         if let Ok(Outcome::Halted) = axis.instruction(&mut card) {
             break;
         }
     }
     let (stage, instruction, access, cause) = expected;
-    let Some(fault) = axis.fault() else {
-        return Err(Fail::new("no fault"));
-    };
-    assert!(rt; fault.axis.number() == 2);
-    assert!(rt; fault.stage.number() == stage);
+    let fault = axis.fault().ok_or("no fault")?;
+    assert!(rt; u32::from(fault.axis) == 2);
+    assert!(rt; u32::from(fault.stage) == stage);
     assert!(rt; fault.instruction == instruction && axis.pc() == instruction);
     assert!(rt;
         fault.access == access && fault.origin.address == access && fault.origin.layer == 0
     );
-    assert!(rt; fault.cause.number() == cause);
+    assert!(rt; u32::from(fault.cause) == cause);
     let flags = axis.flags();
     assert!(rt; axis.register(1) == 0 && !flags.v && !flags.n && !flags.z);
-    assert!(rt; matches!(axis.instruction(&mut card), Err(Refusal::Halted)));
+    assert_eq!(rt; axis.instruction(&mut card), Err(Refusal::Halted));
     axis.reset();
     assert!(rt; axis.fault().is_none() && axis.pc() == 0);
     Ok(())
@@ -57,15 +53,13 @@ fn each_stage(rt: HostRuntime) -> Result<(), Fail> {
 fn store_to_a_boot_card(rt: HostRuntime) -> Result<(), Fail> {
     let words = [0x1001_0007, 0x3101_0000];
     let mut card = BootCard::new(&words);
-    let Ok(mut axis) = Machine::power_up(3, &mut card) else {
-        return Err(Fail::new("power-up"));
-    };
-    assert!(rt; matches!(axis.instruction(&mut card), Ok(Outcome::Done)));
-    assert!(rt; matches!(axis.instruction(&mut card), Ok(Outcome::Halted)));
-    let Some(fault) = axis.fault() else {
-        return Err(Fail::new("no fault"));
-    };
-    assert!(rt; fault.axis.number() == 3 && fault.stage.number() == 4 && fault.cause.number() == 2);
+    let mut axis = Machine::power_up(3, &mut card)?;
+    assert_eq!(rt; axis.instruction(&mut card), Ok(Outcome::Done));
+    assert_eq!(rt; axis.instruction(&mut card), Ok(Outcome::Halted));
+    let fault = axis.fault().ok_or("no fault")?;
+    assert!(rt;
+        u32::from(fault.axis) == 3 && u32::from(fault.stage) == 4 && u32::from(fault.cause) == 2
+    );
     assert!(rt; fault.instruction == 1 && fault.access == 0);
     assert!(rt; axis.register(1) == 7);
     Ok(())
@@ -76,11 +70,9 @@ fn store_to_a_boot_card(rt: HostRuntime) -> Result<(), Fail> {
 fn self_modifying_store(rt: HostRuntime) -> Result<(), Fail> {
     let mut words = [0x3001_0003, 0x3101_0002, 0xff00_0000, 0x1005_0509];
     let mut card = WordCard::new(&mut words);
-    let Ok(mut axis) = Machine::power_up(1, &mut card) else {
-        return Err(Fail::new("power-up"));
-    };
+    let mut axis = Machine::power_up(1, &mut card)?;
     for _ in 0..3 {
-        assert!(rt; matches!(axis.instruction(&mut card), Ok(Outcome::Done)));
+        assert_eq!(rt; axis.instruction(&mut card), Ok(Outcome::Done));
     }
     assert!(rt; axis.register(5) == 9 && axis.pc() == 3);
     Ok(())

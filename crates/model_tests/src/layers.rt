@@ -1,73 +1,74 @@
 // Layers: origins through a stack, waits, and what a layer leaves of the card below.
 use super::edge_card::EdgeCard;
-use card::{BootCard, Card, Cause, Cell, Cells, Direction, End, Origin, Polled, Request, WordCard};
+use card::{
+    AccessFault, BootCard, Card, Cause, Cell, Cells, Direction, End, Origin, Request, WordCard,
+};
 use layer::{Kind, Layer};
 use machine::{Machine, Outcome};
 use refusal::Refusal;
 use std::process::Abort;
 use std::test::Fail;
 
-fn is_at(origin: Origin, address: u32, layer: u8) -> bool {
-    origin.address == address && origin.layer == layer
+fn absent(address: u32, layer: u8) -> Cell {
+    Cell::Absent(Origin { address, layer })
 }
 
-// Whether the cell is absent with this origin.
-fn absent_at(cell: Cell, address: u32, layer: u8) -> bool {
-    match cell {
-        Cell::Absent(origin) => is_at(origin, address, layer),
-        _ => false,
-    }
+fn fixed(word: u32, address: u32, layer: u8) -> Cell {
+    Cell::Fixed(word, Origin { address, layer })
 }
 
-// Whether the cell is fixed, with this word and origin.
-fn fixed_at(cell: Cell, word: u32, address: u32, layer: u8) -> bool {
-    match cell {
-        Cell::Fixed(found, origin) => found == word && is_at(origin, address, layer),
-        _ => false,
-    }
+fn fault(cause: Cause, address: u32, layer: u8) -> End {
+    let origin = Origin { address, layer };
+    Err(AccessFault { cause, origin })
 }
 
 #[test]
-fn offsets_at_their_ends(rt: HostRuntime) {
+fn offsets_at_their_ends(rt: HostRuntime) -> Result<(), Fail> {
     let mut words = [5];
     let card = Layer::new(Kind::Offset(0), WordCard::new(&mut words));
-    assert!(rt; matches!(card.look(0), Cell::Open(5)) && absent_at(card.look(1), 1, 1));
+    assert_eq!(rt; card.look(0), Cell::Open(5));
+    assert_eq!(rt; card.look(1), absent(1, 1));
     let mut words = [5];
     let card = Layer::new(Kind::Offset(0xffff_ffff), WordCard::new(&mut words));
-    assert!(rt;
-        matches!(card.look(0xffff_ffff), Cell::Open(5))
-            && absent_at(card.look(0xffff_fffe), 0xffff_fffe, 0)
-    );
+    assert_eq!(rt; card.look(0xffff_ffff), Cell::Open(5));
+    assert_eq!(rt; card.look(0xffff_fffe), absent(0xffff_fffe, 0));
     let mut words = [5];
     let mut card = Layer::new(Kind::Offset(4), WordCard::new(&mut words));
-    assert!(rt;
-        absent_at(card.look(3), 3, 0)
-            && matches!(card.look(4), Cell::Open(5))
-            && absent_at(card.look(5), 1, 1)
-    );
-    assert!(rt; card.place(4, 6).is_ok() && matches!(card.place(3, 6), Err(Refusal::NotOpen)));
-    assert!(rt; matches!(card.look(4), Cell::Open(6)));
+    assert_eq!(rt; card.look(3), absent(3, 0));
+    assert_eq!(rt; card.look(4), Cell::Open(5));
+    assert_eq!(rt; card.look(5), absent(1, 1));
+    card.place(4, 6)?;
+    assert_eq!(rt; card.place(3, 6), Err(Refusal::NotOpen));
+    assert_eq!(rt; card.look(4), Cell::Open(6));
+    Ok(())
 }
 
 #[test]
-fn guards_at_their_ends(rt: HostRuntime) {
+fn guards_at_their_ends(rt: HostRuntime) -> Result<(), Fail> {
     let mut words = [5, 6, 7, 8];
     let mut card = Layer::new(Kind::Guard(1, 2), WordCard::new(&mut words));
-    assert!(rt; matches!(card.look(0), Cell::Open(5)) && fixed_at(card.look(1), 6, 1, 0));
-    assert!(rt; fixed_at(card.look(2), 7, 2, 0) && matches!(card.look(3), Cell::Open(8)));
-    assert!(rt; absent_at(card.look(4), 4, 1));
-    assert!(rt; matches!(card.place(2, 9), Err(Refusal::NotOpen)) && card.place(3, 9).is_ok());
+    assert_eq!(rt; card.look(0), Cell::Open(5));
+    assert_eq!(rt; card.look(1), fixed(6, 1, 0));
+    assert_eq!(rt; card.look(2), fixed(7, 2, 0));
+    assert_eq!(rt; card.look(3), Cell::Open(8));
+    assert_eq!(rt; card.look(4), absent(4, 1));
+    assert_eq!(rt; card.place(2, 9), Err(Refusal::NotOpen));
+    card.place(3, 9)?;
     // first above last guards nothing
     let mut words = [5, 6, 7];
     let card = Layer::new(Kind::Guard(2, 1), WordCard::new(&mut words));
-    assert!(rt; matches!(card.look(1), Cell::Open(6)) && matches!(card.look(2), Cell::Open(7)));
+    assert_eq!(rt; card.look(1), Cell::Open(6));
+    assert_eq!(rt; card.look(2), Cell::Open(7));
     // what is fixed or absent below stays as it is there; of two guards the lower is the origin
     let card = Layer::new(Kind::Guard(0, 9), BootCard::new(&[5]));
-    assert!(rt; fixed_at(card.look(0), 5, 0, 1) && absent_at(card.look(1), 1, 1));
+    assert_eq!(rt; card.look(0), fixed(5, 0, 1));
+    assert_eq!(rt; card.look(1), absent(1, 1));
     let mut words = [5, 6];
     let lower = Layer::new(Kind::Guard(0, 0), WordCard::new(&mut words));
     let card = Layer::new(Kind::Guard(0, 9), lower);
-    assert!(rt; fixed_at(card.look(0), 5, 0, 1) && fixed_at(card.look(1), 6, 1, 0));
+    assert_eq!(rt; card.look(0), fixed(5, 0, 1));
+    assert_eq!(rt; card.look(1), fixed(6, 1, 0));
+    Ok(())
 }
 
 // Waits of a transfer, and how it ends once they are over.
@@ -77,22 +78,14 @@ fn waited<C: Card>(
     direction: Direction,
     address: u32,
 ) -> Result<(u16, End), Fail> {
-    let Ok(waits) = card.begin(Request { direction, address }) else {
-        return Err(Fail::new("begin"));
-    };
-    assert!(rt;
-        matches!(
-            card.begin(Request { direction, address }),
-            Err(Refusal::Transfer)
-        )
-    );
+    let request = Request { direction, address };
+    let waits = card.begin(request)?;
+    assert_eq!(rt; card.begin(request), Err(Refusal::Transfer));
     for _ in 0..waits {
-        assert!(rt; matches!(card.poll(), Ok(Polled::Waiting)));
+        assert_eq!(rt; card.poll(), Ok(None));
     }
-    match card.poll() {
-        Ok(Polled::Ended(end)) => Ok((waits, end)),
-        _ => Err(Fail::new("the transfer does not end")),
-    }
+    let end = card.poll()?.ok_or("the transfer does not end")?;
+    Ok((waits, end))
 }
 
 #[test]
@@ -103,68 +96,40 @@ fn waits_through_a_stack(rt: HostRuntime) -> Result<(), Fail> {
         transfer: None,
     };
     let mut slow = Layer::new(Kind::Slow(200), below);
-    assert!(rt; slow.patience() == 203);
-    assert!(rt;
-        matches!(
-            waited(&rt, &mut slow, Direction::Read, 3)?,
-            (203, End::Word(0))
-        )
-    );
+    assert_eq!(rt; slow.patience(), 203);
+    assert_eq!(rt; waited(&rt, &mut slow, Direction::Read, 3)?, (203, Ok(0)));
     let mut offset = Layer::new(Kind::Offset(2), slow);
-    assert!(rt;
-        matches!(
-            waited(&rt, &mut offset, Direction::Read, 4)?,
-            (202, End::Word(0))
-        )
-    );
+    assert_eq!(rt; waited(&rt, &mut offset, Direction::Read, 4)?, (202, Ok(0)));
     let mut card = Layer::new(Kind::Guard(1, 1), offset);
-    assert!(rt; card.patience() == 203);
+    assert_eq!(rt; card.patience(), 203);
     // the card below waits by its address, and the slow layer adds to that
-    assert!(rt;
-        matches!(
-            waited(&rt, &mut card, Direction::Read, 5)?,
-            (203, End::Word(0))
-        )
+    assert_eq!(rt; waited(&rt, &mut card, Direction::Read, 5)?, (203, Ok(0)));
+    assert_eq!(rt;
+        waited(&rt, &mut card, Direction::Write(7), 6)?,
+        (200, Ok(7))
     );
-    assert!(rt;
-        matches!(
-            waited(&rt, &mut card, Direction::Write(7), 6)?,
-            (200, End::Word(7))
-        )
-    );
-    assert!(rt; matches!(card.look(6), Cell::Open(7)));
+    assert_eq!(rt; card.look(6), Cell::Open(7));
     // what a layer refuses itself has no waits
-    assert!(rt;
-        matches!(
-            waited(&rt, &mut card, Direction::Read, 1)?,
-            (0, End::Fault(Cause::Absent, _))
-        )
+    assert_eq!(rt;
+        waited(&rt, &mut card, Direction::Read, 1)?,
+        (0, fault(Cause::Absent, 1, 1))
     );
     let mut card = Layer::new(Kind::Guard(4, 5), card);
-    assert!(rt;
-        matches!(
-            waited(&rt, &mut card, Direction::Write(9), 5)?,
-            (0, End::Fault(Cause::Fixed, _))
-        )
+    assert_eq!(rt;
+        waited(&rt, &mut card, Direction::Write(9), 5)?,
+        (0, fault(Cause::Fixed, 5, 0))
     );
-    assert!(rt;
-        matches!(
-            waited(&rt, &mut card, Direction::Read, 5)?,
-            (203, End::Word(0))
-        )
-    );
-    assert!(rt;
-        matches!(
-            waited(&rt, &mut card, Direction::Write(9), 20)?,
-            (202, End::Fault(Cause::Fixed, _))
-        )
+    assert_eq!(rt; waited(&rt, &mut card, Direction::Read, 5)?, (203, Ok(0)));
+    assert_eq!(rt;
+        waited(&rt, &mut card, Direction::Write(9), 20)?,
+        (202, fault(Cause::Fixed, 18, 4))
     );
     Ok(())
 }
 
 // Making a layer cancels the transfer below, and cancelling the layer's own leaves the cells.
 #[test]
-fn made_during_a_transfer(rt: HostRuntime) {
+fn made_during_a_transfer(rt: HostRuntime) -> Result<(), Fail> {
     let mut below = EdgeCard {
         first: [1; 8],
         last: [2; 8],
@@ -174,22 +139,20 @@ fn made_during_a_transfer(rt: HostRuntime) {
         direction: Direction::Write(9),
         address: 3,
     };
-    assert!(rt; below.begin(request).is_ok());
+    below.begin(request)?;
     let mut card = Layer::new(Kind::Slow(0), below);
-    assert!(rt; matches!(card.poll(), Err(Refusal::Transfer)));
-    assert!(rt; matches!(card.begin(request), Ok(3)));
-    assert!(rt; matches!(card.poll(), Ok(Polled::Waiting)));
+    assert_eq!(rt; card.poll(), Err(Refusal::Transfer));
+    assert_eq!(rt; card.begin(request), Ok(3));
+    assert_eq!(rt; card.poll(), Ok(None));
     card.cancel();
-    assert!(rt;
-        matches!(card.poll(), Err(Refusal::Transfer)) && matches!(card.look(3), Cell::Open(1))
-    );
+    assert_eq!(rt; card.poll(), Err(Refusal::Transfer));
+    assert_eq!(rt; card.look(3), Cell::Open(1));
+    Ok(())
 }
 
 // Runs up to so many instructions, and answers the machine.
 fn run<C: Card>(rt: &impl Abort, card: &mut C, count: u32) -> Result<Machine, Fail> {
-    let Ok(mut axis) = Machine::power_up(1, card) else {
-        return Err(Fail::new("power-up"));
-    };
+    let mut axis = Machine::power_up(1, card)?;
     for _ in 0..count {
         assert!(rt; matches!(axis.instruction(card), Ok(Outcome::Done | Outcome::Ignored)));
     }
@@ -221,13 +184,13 @@ fn slow_layers_change_nothing_but_waits(rt: HostRuntime) -> Result<(), Fail> {
     );
     let slowed = run(&rt, &mut stack, 60)?;
     for register in 0..=255u8 {
-        assert!(rt; plain.register(register) == slowed.register(register));
+        assert_eq!(rt; plain.register(register), slowed.register(register));
     }
-    let (p, s) = (plain.flags(), slowed.flags());
-    assert!(rt; p.v == s.v && p.n == s.n && p.z == s.z && plain.pc() == slowed.pc());
+    assert_eq!(rt; plain.flags(), slowed.flags());
+    assert_eq!(rt; plain.pc(), slowed.pc());
     for address in 0..12u32 {
         match (bare.look(address), stack.look(address)) {
-            (Cell::Open(a), Cell::Open(b)) => assert!(rt; a == b),
+            (Cell::Open(a), Cell::Open(b)) => assert_eq!(rt; a, b),
             (Cell::Absent(_), Cell::Absent(_)) => {}
             _ => return Err(Fail::new("a cell differs")),
         }

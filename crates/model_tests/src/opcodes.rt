@@ -1,5 +1,6 @@
 // Every opcode once, and every branch mask at every setting of the flags, on a word card.
 use card::{Cells, WordCard};
+use isa::Flags;
 use machine::{Machine, Outcome, marked_words};
 use std::process::Abort;
 use std::test::Fail;
@@ -7,9 +8,7 @@ use std::test::Fail;
 // Runs so many instructions of the words, which all have to be done.
 fn run(rt: &impl Abort, words: &mut [u32], count: u32) -> Result<Machine, Fail> {
     let mut card = WordCard::new(words);
-    let Ok(mut axis) = Machine::power_up(1, &mut card) else {
-        return Err(Fail::new("power-up"));
-    };
+    let mut axis = Machine::power_up(1, &mut card)?;
     for _ in 0..count {
         assert!(rt;
             matches!(
@@ -72,21 +71,21 @@ fn each_opcode(rt: HostRuntime) -> Result<(), Fail> {
             0,
         ];
         let mut card = WordCard::new(&mut words);
-        let Ok(mut axis) = Machine::power_up(1, &mut card) else {
-            return Err(Fail::new("power-up"));
-        };
+        let mut axis = Machine::power_up(1, &mut card)?;
         for _ in 0..3 {
-            assert!(rt; matches!(axis.instruction(&mut card), Ok(Outcome::Done)));
+            assert_eq!(rt; axis.instruction(&mut card), Ok(Outcome::Done));
         }
         let (r5, pc, known) = expected(opcode);
-        match axis.instruction(&mut card) {
-            Ok(Outcome::Done) => assert!(rt; known),
-            Ok(Outcome::Ignored) => assert!(rt; !known),
-            _ => return Err(Fail::new("halted or refused")),
-        }
-        assert!(rt; axis.register(5) == r5 && axis.pc() == pc);
-        assert!(rt; words[12] == if opcode == 0x21 { 100 } else { 0x44 });
-        assert!(rt; words[14] == if opcode == 0x31 { 100 } else { 0x66 });
+        let outcome = if known {
+            Outcome::Done
+        } else {
+            Outcome::Ignored
+        };
+        assert_eq!(rt; axis.instruction(&mut card), Ok(outcome));
+        assert_eq!(rt; axis.register(5), r5);
+        assert_eq!(rt; axis.pc(), pc);
+        assert_eq!(rt; words[12], if opcode == 0x21 { 100 } else { 0x44 });
+        assert_eq!(rt; words[14], if opcode == 0x31 { 100 } else { 0x66 });
     }
     Ok(())
 }
@@ -112,11 +111,10 @@ fn each_mask_at_each_setting(rt: HostRuntime) -> Result<(), Fail> {
             let branch = u32::from_be_bytes([0x50, mask, 0, 9]);
             let mut words = [0x3001_0004, arithmetic, logic, branch, 0x8000_0000];
             let axis = run(&rt, &mut words, 4)?;
-            let flags = axis.flags();
-            assert!(rt; flags.v == v && flags.n == n && flags.z == z);
+            assert_eq!(rt; axis.flags(), Flags { v, n, z });
             let some = (v && mask & 4 != 0) || (n && mask & 2 != 0) || (z && mask & 1 != 0);
             let taken = some == (mask & 8 != 0);
-            assert!(rt; axis.pc() == if taken { 13 } else { 4 });
+            assert_eq!(rt; axis.pc(), if taken { 13 } else { 4 });
         }
     }
     Ok(())
@@ -125,21 +123,36 @@ fn each_mask_at_each_setting(rt: HostRuntime) -> Result<(), Fail> {
 // The arithmetic rows of the marked words, r2 and r3 loaded first; the branches stand in the bench's scenario.
 #[test]
 fn marked_arithmetic(rt: HostRuntime) -> Result<(), Fail> {
-    let marked = marked_words();
-    let operands = [
-        (0, 0),
-        (0x8000_0000, 1),
-        (0xffff_0000, 0x8000),
-        (0xffff_fffb, 0),
+    let [negative, difference, product, quotient, ..] = marked_words();
+    let flags = |v, n| Flags { v, n, z: false };
+    let rows = [
+        (negative, (0, 0), 5, 0xffff_ffff, flags(false, true)),
+        (
+            difference,
+            (0x8000_0000, 1),
+            1,
+            0x7fff_ffff,
+            flags(true, false),
+        ),
+        (
+            product,
+            (0xffff_0000, 0x8000),
+            1,
+            0x8000_0000,
+            flags(false, true),
+        ),
+        (
+            quotient,
+            (0xffff_fffb, 0),
+            1,
+            0x8000_0000,
+            flags(true, true),
+        ),
     ];
-    let results = [0xffff_ffff, 0x7fff_ffff, 0x8000_0000, 0x8000_0000];
-    for i in 0..4usize {
-        let (a, b) = operands[i];
-        let axis = run(&rt, &mut [0x3002_0003, 0x3003_0004, marked[i], a, b], 3)?;
-        let register = if i == 0 { 5 } else { 1 };
-        assert!(rt; axis.register(register) == results[i]);
-        let flags = axis.flags();
-        assert!(rt; flags.v == (i == 1 || i == 3) && flags.n == (i != 1) && !flags.z);
+    for (marked, (a, b), register, word, flags) in rows {
+        let axis = run(&rt, &mut [0x3002_0003, 0x3003_0004, marked, a, b], 3)?;
+        assert_eq!(rt; axis.register(register), word);
+        assert_eq!(rt; axis.flags(), flags);
     }
     Ok(())
 }
