@@ -78,8 +78,10 @@ cause_length (suc (suc (suc n))) l h = absurd (omega arith)
 pub line_bounds : (f : Fields) → InRange f → (46 ≤ length (line_of f)) × (length (line_of f) ≤ 48)
 line_bounds f v =
     let s = stage_length f.stage v.stage_in.0 v.stage_in.1 in
-    let c = cause_length f.cause v.cause_in.0 v.cause_in.1 in
-    (simp (length-append, length_digits) (omega (arith, s, c)), simp (length-append, length_digits) (omega (arith, s, c)))
+    let c = cause_length f.cause v.cause_in.0 v.cause_in.1 in (
+      simp (length-append, length_digits) (omega (arith, s, c)),
+      simp (length-append, length_digits) (omega (arith, s, c)),
+    )
 
 axis_tells : Tells (λ n. n < 10) axis_text
 axis_tells = number_tells (codes "A") 10 1 (omega arith) (omega arith)
@@ -183,8 +185,8 @@ pub none : (line : List ℕ) (r : Option Fields) → r ≡ None → ((f : Fields
 none line r e h = rw e (record { found = h; same = λ f v l. absurd (h f v l) })
 
 -- what is read is given where a test holds
-pub if_not : (line : List ℕ) (g : Fields) (test : Bool) → test ≡ false → ((f : Fields) → InRange f → line ≡ line_of f → ⊥)
-    → Read line (then_some test g)
+pub if_not : (line : List ℕ) (g : Fields) (test : Bool) → test ≡ false
+    → ((f : Fields) → InRange f → line ≡ line_of f → ⊥) → Read line (then_some test g)
 if_not line g test e h = rw e (none line None refl h)
 
 pub if_in_range : (line : List ℕ) (g : Fields) (test in_range : Bool) → test ≡ in_range → Decides in_range (InRange g)

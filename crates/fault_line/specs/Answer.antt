@@ -27,11 +27,13 @@ Written told f before r after =
     × Begins (line_of f) before after
 
 -- the fields are tested before the buffer, which must do for the longest line
-pub record AnsweredAs {R : Type 0} (told : Result ℕ Refusal → R) (f : Fields) (before : List ℕ) (r : R) (after : List ℕ) : Type 0 where
+pub record AnsweredAs {R : Type 0} (told : Result ℕ Refusal → R) (f : Fields) (before : List ℕ) (r : R) (after : List ℕ)
+    : Type 0 where
   pub unfit : (InRange f → ⊥) → Refused told Field before r after
   pub short : InRange f → length before < 48 → Refused told Buffer before r after
   pub written : InRange f → 48 ≤ length before → Written told f before r after
 
+-- the library's own answer
 abbrev pub LineAnswered : Fields → List ℕ → Result ℕ Refusal → List ℕ → Type 0
 LineAnswered = AnsweredAs (λ r. r)
 

@@ -36,13 +36,15 @@ pub returns-in_err-address-3-clause-read : goal.returns-in_err-address-3-clause-
 returns-in_err-address-3-clause-read c =
     none c.args.line.now _ c.from_residual-in_err-address-3.ensures (λ f v e.
     c.in_err-address-3.ensures f.origin (after_origin f) v.origin_in
-    (told_cause f v e c.in_ok-axis.ensures c.in_ok-stage.ensures c.in_ok-address.ensures c.in_ok-address-2.ensures c.in_ok-cause.ensures).1)
+    (told_cause f v e c.in_ok-axis.ensures c.in_ok-stage.ensures c.in_ok-address.ensures c.in_ok-address-2.ensures
+    c.in_ok-cause.ensures).1)
 
 pub returns-in_err-layer-clause-read : goal.returns-in_err-layer-clause-read
 returns-in_err-layer-clause-read c =
     none c.args.line.now _ c.from_residual-in_err-layer.ensures (λ f v e.
     c.in_err-layer.ensures f.layer (after_layer f) (omega (arith, v.layer_in))
-    (told_origin f v e c.in_ok-axis.ensures c.in_ok-stage.ensures c.in_ok-address.ensures c.in_ok-address-2.ensures c.in_ok-cause.ensures c.in_ok-address-3.ensures).1)
+    (told_origin f v e c.in_ok-axis.ensures c.in_ok-stage.ensures c.in_ok-address.ensures c.in_ok-address-2.ensures
+    c.in_ok-cause.ensures c.in_ok-address-3.ensures).1)
 
 pub returns-clause-read : goal.returns-clause-read
 returns-clause-read c =
@@ -51,12 +53,17 @@ returns-clause-read c =
     (elim c.if-ends.branch [
       | then-ends w ↦
           (if_in_range line _ _ _ w.then_some-is w.in_range.ensures
-          (whole c.in_ok-axis.field-0 c.in_ok-stage.field-0 c.in_ok-address.field-0 c.in_ok-address-2.field-0 c.in_ok-cause.field-0 c.in_ok-address-3.field-0 c.in_ok-layer.field-0
-          c.in_ok-axis.ensures.1 c.in_ok-stage.ensures.1 c.in_ok-address.ensures.1 c.in_ok-address-2.ensures.1 c.in_ok-cause.ensures.1 c.in_ok-address-3.ensures.1 c.in_ok-layer.ensures.1 (c.ends.ensures.0 w.if-ends.true))
-          (λ f v e. (told_all f v e c.in_ok-axis.ensures c.in_ok-stage.ensures c.in_ok-address.ensures c.in_ok-address-2.ensures c.in_ok-cause.ensures c.in_ok-address-3.ensures c.in_ok-layer.ensures).0))
+          (whole c.in_ok-axis.field-0 c.in_ok-stage.field-0 c.in_ok-address.field-0 c.in_ok-address-2.field-0
+          c.in_ok-cause.field-0 c.in_ok-address-3.field-0 c.in_ok-layer.field-0
+          c.in_ok-axis.ensures.1 c.in_ok-stage.ensures.1 c.in_ok-address.ensures.1 c.in_ok-address-2.ensures.1
+          c.in_ok-cause.ensures.1 c.in_ok-address-3.ensures.1 c.in_ok-layer.ensures.1
+          (c.ends.ensures.0 w.if-ends.true))
+          (λ f v e. (told_all f v e c.in_ok-axis.ensures c.in_ok-stage.ensures c.in_ok-address.ensures c.in_ok-address-2.ensures
+          c.in_ok-cause.ensures c.in_ok-address-3.ensures c.in_ok-layer.ensures).0))
       | else-ends w ↦
           (if_not line _ _ (w.then_some-is ∙ w.if-ends.false)
           (λ f v e.
           both_ways _ w.if-ends.false
-          (c.ends.ensures.1 (told_all f v e c.in_ok-axis.ensures c.in_ok-stage.ensures c.in_ok-address.ensures c.in_ok-address-2.ensures c.in_ok-cause.ensures c.in_ok-address-3.ensures c.in_ok-layer.ensures).1)))
+          (c.ends.ensures.1 (told_all f v e c.in_ok-axis.ensures c.in_ok-stage.ensures c.in_ok-address.ensures c.in_ok-address-2.ensures
+          c.in_ok-cause.ensures c.in_ok-address-3.ensures c.in_ok-layer.ensures).1)))
     ])

@@ -10,9 +10,13 @@ use Rattle.fault_line.proofs.write.write_line.Goals as goal
 -- the texts of the fields with what stands between them
 abbrev written : List ℕ → List ℕ → List ℕ → List ℕ → List ℕ → List ℕ → List ℕ → List ℕ
 written a s i x c o l =
-    codes "A" ++ (a ++ (codes " " ++ (s ++ (codes " " ++ (i ++ (codes " " ++ (x ++ (codes " " ++ (c ++ (codes " " ++ (o ++ (codes " L" ++ (l ++ (10 ∷ []))))))))))))))
+    codes "A" ++ (a ++ (codes " " ++ (s ++ (codes " " ++ (i ++ (codes " " ++ (x ++
+    (codes " " ++ (c ++ (codes " " ++ (o ++ (codes " L" ++ (l ++ (10 ∷ []))))))))))))))
 
-module _ (f : Fields) (v : InRange f) {a s i x c o l : List ℕ} (ea : a ≡ digits 10 1 f.axis) (es : s ≡ name stages f.stage) (ei : i ≡ digits 16 8 f.instruction) (ex : x ≡ digits 16 8 f.access) (ec : c ≡ name causes f.cause) (eo : o ≡ digits 16 8 f.origin) (el : l ≡ digits 10 3 f.layer) where
+module _
+    (f : Fields) (v : InRange f) {a s i x c o l : List ℕ} (ea : a ≡ digits 10 1 f.axis) (es : s ≡ name stages f.stage)
+    (ei : i ≡ digits 16 8 f.instruction) (ex : x ≡ digits 16 8 f.access) (ec : c ≡ name causes f.cause)
+    (eo : o ≡ digits 16 8 f.origin) (el : l ≡ digits 10 3 f.layer) where
   line_is : written a s i x c o l ≡ line_of f
   line_is = rw (ea, es, ei, ex, ec, eo, el) refl
 

@@ -12,7 +12,7 @@ missed mark text after None h e = h
 
 pub loop-i-preserved : goal.loop-i-preserved
 loop-i-preserved c =
-    let at = get_or-map (λ t. t.now) c.args.names.now c.loop-i.i (record { ref_ptr = (0, 0); now = [] }) [] c.loop-i-test.true in
+    let at = get_or-map (λ t. t.now) c.args.names.now c.loop-i.i _ [] c.loop-i-test.true in
     let h = missed _ _ _ _ c.mark-in-loop-i.ensures c.if-is_some.ensures in
     let same = c.loop-i.invariant.0 in (
       h.1 ∙ same,
