@@ -5,11 +5,13 @@ use Rattle.std.proofs.lemmas.List.{get_or-take, get_or-drop}
 use Rattle.std.specs.Simd.{first_chunks}
 use Rattle.image.specs.Directory.{number}
 
+-- The first j of k chunks.
 pub take-first_chunks : {X : Type 0} (n j k : ℕ) (xs : List X) → j ≤ k → take j (first_chunks n k xs) ≡ first_chunks n j xs
 take-first_chunks n zero k xs h = refl
 take-first_chunks n (suc j) zero xs h = absurd (omega arith)
 take-first_chunks n (suc j) (suc k) xs h = ap (λ r. take n xs ∷ r) (take-first_chunks n j k (drop n xs) (omega arith))
 
+-- Chunk i is the part of n elements from n * i on.
 pub chunk_at : {X : Type 0} (n k : ℕ) (xs : List X) (i : ℕ) (d : List X) → i < k
     → get_or (first_chunks n k xs) i d ≡ take n (drop (n * i) xs)
 chunk_at n zero xs i d h = absurd (omega arith)
@@ -23,6 +25,7 @@ pub number_of_four : (x : List ℕ)
 unfolding number
 number_of_four x = refl
 
+-- A number read from a part of the bytes.
 pub number_in : (bs : List ℕ) (o k p : ℕ) → p + 4 ≤ k → number (take k (drop o bs)) p ≡ number bs (o + p)
 unfolding number
 number_in bs o k p h = grind (arith, get_or-take, get_or-drop)

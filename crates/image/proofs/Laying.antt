@@ -1,6 +1,5 @@
 -- Segments that are looked at, and laid, one after another.
-use Rattle.std.proofs.Common.{◌≡◌, ℕ, ◌+◌, ◌^◌, ◌<◌, ◌≤◌, true, false, Bool, List, None, Some, Option, Result, cond, not, find, map, refl, zero, suc, sym, ap, ◌∙◌, subst, inl, inr, arith, rules}
-use Rattle.std.specs.List.{range_with_len}
+use Rattle.std.proofs.Common.{◌≡◌, ℕ, ◌+◌, ◌^◌, ◌<◌, ◌≤◌, true, false, List, Some, Result, sym, ap, ◌∙◌, subst, inl, inr, arith, rules}
 use Rattle.std.proofs.lemmas.Bool.{cases_lt}
 use Rattle.std.proofs.lemmas.Grind.{common_steps}
 use Rattle.std.proofs.lemmas.Bool.Decides.{nat_tests}
@@ -11,7 +10,7 @@ use Rattle.refusal.specs.declared.Refusal.{Refusal}
 use Rattle.image.specs.declared.image.Image.{Image}
 use Rattle.image.specs.declared.segment.Segment.{Segment}
 use Rattle.image.specs.Directory.{count_of, offset_of, length_of, end_of, part_of, Right}
-use Rattle.image.specs.Words.{cell_is_open, words_in, word_in, OpenFrom, closed_in, laid}
+use Rattle.image.specs.Words.{cell_is_open, words_in, word_in, OpenFrom, laid}
 use Rattle.image.specs.Check.{bytes_of}
 use Rattle.image.specs.Segments.{Shown}
 use Rattle.image.specs.Placing.{Holds, AllOpen, FirstClosed, Lays, Laid}
@@ -33,49 +32,6 @@ laid_in o part k f j l = grind (arith, nat_tests)
 
 laid_other : (o : ℕ) (part : List ℕ) (k : ℕ) (f : Map) (a : ℕ) → (o ≤ a → a < o + k → ⊥) → laid o part k f a ≡ f a
 laid_other o part k f a out = grind (arith, nat_tests)
-
--- The first address that is not open, from the first one on, up to and without the last.
-abbrev pub FirstClosedIn : Map → ℕ → ℕ → Option ℕ → Type 0
-FirstClosedIn f first last None = OpenFrom f first last
-FirstClosedIn f first last (Some a) = (first ≤ a) × (a < last) × (cell_is_open (f a) ≡ false) × OpenFrom f first a
-
--- The same for the addresses of a segment at the offset.
-abbrev pub ClosedIn : Map → ℕ → List ℕ → Option ℕ → Type 0
-ClosedIn f offset part r = FirstClosedIn f offset (offset + words_in part) r
-
-open_more_below : (f : Map) (first last : ℕ) → cell_is_open (f first) ≡ true → OpenFrom f (first + 1) last
-    → OpenFrom f first last
-open_more_below f first last e rest a low high =
-    elim (cases_lt first a) [
-      | inl x ↦ rest a (omega arith) high
-      | inr x ↦ let same : a ≡ first = omega arith in ap (λ b. cell_is_open (f b)) same ∙ e
-    ]
-
-closed_step : (f : Map) (first last : ℕ) (opened : Bool) (r : Option ℕ) → first < last
-    → cell_is_open (f first) ≡ opened → FirstClosedIn f (first + 1) last r
-    → FirstClosedIn f first last (cond (not opened) (Some first) r)
-closed_step f first last false r l e rest = (omega arith, l, e, λ a low high. absurd (omega arith))
-closed_step f first last true None l e rest = open_more_below f first last e rest
-closed_step f first last true (Some x) l e (low, high, closed, before) =
-    (omega arith, high, closed, open_more_below f first x e before)
-
-closed_from : (f : Map) (offset k n last : ℕ) → offset + k + n ≡ last → FirstClosedIn f (offset + k) last
-    (find (λ a. not (cell_is_open (f a))) (map (λ j. offset + j) (range_with_len k n)))
-closed_from f offset k zero last e = λ a low high. absurd (omega arith)
-closed_from f offset k (suc n) last e =
-    closed_step f (offset + k) last (cell_is_open (f (offset + k))) _ (omega arith) refl
-    (subst (λ first. FirstClosedIn f first last
-    (find (λ a. not (cell_is_open (f a))) (map (λ j. offset + j) (range_with_len (k + 1) n)))) (omega arith)
-    (closed_from f offset (k + 1) n last (omega arith)))
-
-pub closed_found : (f : Map) (offset : ℕ) (part : List ℕ) (r : Option ℕ) → r ≡ closed_in f offset part
-    → ClosedIn f offset part r
-closed_found f offset part r e =
-    let last = offset + words_in part in
-    let from : FirstClosedIn f offset last (closed_in f offset part) =
-    subst (λ first. FirstClosedIn f first last (closed_in f offset part)) (omega arith)
-    (closed_from f offset 0 (words_in part) last (omega arith)) in
-    subst (FirstClosedIn f offset last) (sym e) from
 
 -- One more word of a segment at its place, which is open.
 pub laid_step : (o : ℕ) (part : List ℕ) (k w : ℕ) (first before after : Meaning) (r : Result (Unit {0}) Refusal)

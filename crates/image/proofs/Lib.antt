@@ -1,3 +1,4 @@
 mod Chunks
+mod Closed
 mod Laying
 mod Pairs

@@ -1,5 +1,6 @@
 use Rattle.std.proofs.Common.{Some, None}
-use Rattle.image.proofs.Laying.{shown, open_more, first_closed_at, closed_found}
+use Rattle.image.proofs.Closed.{closed_found}
+use Rattle.image.proofs.Laying.{shown, open_more, first_closed_at}
 use Rattle.image.proofs.image.Image.first_closed.Goals as goal
 
 pub returns-in-Some : goal.returns-in-Some

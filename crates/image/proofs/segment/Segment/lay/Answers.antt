@@ -1,4 +1,4 @@
-use Rattle.std.proofs.Common.{◌≡◌, ◌∙◌, get_or, [], ap, arith}
+use Rattle.std.proofs.Common.{◌≡◌, ◌<◌, ◌∙◌, get_or, [], ap, arith}
 use Rattle.image.specs.Directory.{number}
 use Rattle.image.specs.Words.{words_in, word_in}
 use Rattle.image.proofs.Chunks.{number_of_four, word_read}
@@ -8,9 +8,12 @@ use Rattle.image.proofs.segment.Segment.lay.Goals as goal
 pub loop-k-preserved : goal.loop-k-preserved
 loop-k-preserved g c =
     let part = c.args.self.now.words.now in
-    let word : c.from_be_bytes.result ≡ word_in part c.loop-k.k =
+    let k = c.loop-k.k in
+    let within : k < words_in part = omega (arith, c.loop-k-test.true, c.as_chunks.ensures.front_len) in
+    let word : c.from_be_bytes.result ≡ word_in part k =
     c.from_be_bytes.ensures
-    ∙ number_of_four (get_or c.as_chunks.result.0.now c.loop-k.k [])
-    ∙ ap (λ chunks. number (get_or chunks c.loop-k.k []) 0) c.as_chunks.ensures.front
-    ∙ word_read part (words_in part) c.loop-k.k [] (omega (arith, c.loop-k-test.true, c.as_chunks.ensures.front_len)) in
-    laid_step c.args.self.now.offset part c.loop-k.k c.from_be_bytes.result _ _ _ _ (c.requires.open _ (omega arith) (omega (arith, c.loop-k-test.true, c.as_chunks.ensures.front_len))) c.loop-k.invariant word c.place.ensures
+    ∙ number_of_four (get_or c.as_chunks.result.0.now k [])
+    ∙ ap (λ chunks. number (get_or chunks k []) 0) c.as_chunks.ensures.front
+    ∙ word_read part (words_in part) k [] within in
+    let opened = c.requires.open _ (omega arith) (omega (arith, within)) in
+    laid_step c.args.self.now.offset part k c.from_be_bytes.result _ _ _ _ opened c.loop-k.invariant word c.place.ensures
