@@ -1,5 +1,5 @@
 -- A word of digits is ASCII with no sign, so that the library's parse reads it as it stands.
-use Rattle.std.proofs.Common.{◌≡◌, ℕ, ◌^◌, ◌<◌, ◌≤◌, true, false, List, [], ◌∷◌, length, get_or, Ok, Err, Result, MatchResult, sym, refl, ap, ◌∙◌, subst, ⊎_elim, arith}
+use Rattle.std.proofs.Common.{◌≡◌, ℕ, ◌^◌, ◌<◌, ◌≤◌, true, List, [], ◌∷◌, length, get_or, Ok, Err, Result, MatchResult, sym, refl, ap, ◌∙◌, subst, ⊎_elim, arith}
 use Rattle.std.specs.Char.{digit_value}
 use Rattle.std.specs.Result.{IsOk, OkIff}
 use Rattle.std.specs.Str.{IsAscii, IsUtf8}
@@ -11,15 +11,7 @@ use Rattle.std.proofs.lemmas.Str.Ascii.{IsAscii-nil, IsAscii-cons}
 use Rattle.std.proofs.lemmas.Str.Parse.{without_leading_plus_none}
 use Rattle.command.specs.Numbers.{all_digits, within, number_in_base}
 use Rattle.command.specs.declared.Wrong.{Wrong}
-use Rattle.command.specs.declared.Wrong.TheVariants.{NotANumber, NumberTooLarge}
-
-pub not_digits : (r : ℕ) (xs : List ℕ) → all_digits r xs ≡ false → Err NotANumber ≡ number_in_base r xs
-not_digits r [] e = refl
-not_digits r (x ∷ xs) e = sym (cond-false _ _ _ e)
-
-pub no_digits : (r : ℕ) (xs : List ℕ) → length xs ≡ 0 → Err NotANumber ≡ number_in_base r xs
-no_digits r [] e = refl
-no_digits r (x ∷ xs) e = absurd (omega arith)
+use Rattle.command.specs.declared.Wrong.TheVariants.{NumberTooLarge}
 
 digit_ascii : (r b : ℕ) → r ≤ 36 → digit_value b < r → b < 128
 digit_ascii r b h low = grind (arith, nat_tests)

@@ -1,16 +1,8 @@
 use Rattle.std.proofs.Common.{◌≡◌, sym, rules}
-use Rattle.std.proofs.lemmas.Bool.{eqb-true, eqb-false}
+use Rattle.std.proofs.lemmas.Bool.{eqb-false}
 use Rattle.std.proofs.lemmas.Result.{MatchResult-at_ok, MatchResult-weaker}
-use Rattle.command.proofs.Digits.{not_digits, no_digits, is_text, parsed}
+use Rattle.command.proofs.Digits.{is_text, parsed}
 use Rattle.command.proofs.number.in_base.Goals as goal
-use Rattle.command.proofs.number.in_base.Goals.{then-is_empty-via-then-is_empty, then-is_empty-via-else-is_empty+then-not-are_digits}
-
-pub returns-then-is_empty : goal.returns-then-is_empty
-returns-then-is_empty c =
-    elim c.then-is_empty.branch [
-      | then-is_empty-via-then-is_empty w ↦ no_digits c.args.radix c.args.word.now (eqb-true _ 0 (sym w.if-is_empty.ensures))
-      | then-is_empty-via-else-is_empty+then-not-are_digits w ↦ not_digits c.args.radix c.args.word.now (sym w.if-not-are_digits.ensures)
-    ]
 
 pub unwrap-digits-requires : goal.unwrap-digits-requires
 unwrap-digits-requires c =
