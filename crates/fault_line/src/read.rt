@@ -2,10 +2,43 @@
 ghost use Rattle.std.specs.Prelude.{◌≡◌, ◌^◌, ◌<◌, ◌≤◌, [], ◌∷◌, length, Decides};
 ghost use Rattle.fault_line.specs.Line.{Counts, address_text, axis_text, cause_text, layer_text, stage_text};
 ghost use Rattle.fault_line.specs.Numeral.{radix};
-ghost use Rattle.fault_line.specs.Reading.{FieldRead, MarkRead, NameRead, NumeralRead, OneFault, Read};
+ghost use Rattle.fault_line.specs.Reading.{DigitRead, FieldRead, MarkRead, NameRead, NumberRead, NumeralRead, OneFault, Read};
 
 use super::numeral::Base;
 use super::{CAUSES, Fields, STAGES};
+
+// The number that a character is the hexadecimal digit of.
+fn hexadecimal(character: u8) -> Option<u32>
+    ensures { DigitRead 16 character result }
+{
+    match character {
+        b'0'..=b'9' => Some(u32::from(character - b'0')),
+        b'a'..=b'f' => Some(u32::from(character - b'a') + 10),
+        _ => None,
+    }
+}
+
+impl Base {
+    // The number that a character is the digit of.
+    fn digit(self, character: u8) -> Option<u32>
+        ensures { DigitRead (radix self) character result }
+    {
+        let d = hexadecimal(character)?;
+        (d < self.radix()).then_some(d)
+    }
+
+    // The number that a text of digits writes.
+    fn value(self, text: &[u8]) -> Option<u32>
+        requires { radix self ^ length text.now ≤ 2 ^ 32 }
+        ensures { NumberRead (radix self) text.now result }
+    {
+        let mut n = 0;
+        for character in text {
+            n = n * self.radix() + self.digit(*character)?;
+        }
+        Some(n)
+    }
+}
 
 // What is left of a line.
 #[derive(Drop)]

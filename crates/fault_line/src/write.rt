@@ -3,13 +3,31 @@ ghost use Rattle.std.specs.Prelude.{◌≡◌, ◌≤◌, length};
 ghost use Rattle.fault_line.specs.Answer.{LineAnswered};
 ghost use Rattle.fault_line.specs.Buffer.{Begins, joined};
 ghost use Rattle.fault_line.specs.Line.{Counts, name, texts};
+ghost use Rattle.fault_line.specs.Numeral.{digits, radix};
 
-use super::numeral::Base::{Decimal, Hexadecimal};
+use super::numeral::Base::{self, Decimal, Hexadecimal};
 use super::{CAUSES, Fields, STAGES};
 use refusal::Refusal;
 
 // No line is longer.
 const LONGEST: usize = 48;
+
+impl Base {
+    // The last digits of a number, as many as the array has places.
+    fn digits<const N: usize>(self, n: u32) -> [u8; N]
+        ensures { result ≡ digits (radix self) N n }
+    {
+        let radix = self.radix();
+        let mut text = [b'0'; N];
+        let mut left = n;
+        // by index, since a proof can say nothing of an array that `iter_mut().rev()` goes through
+        for place in (0..N).rev() {
+            text[place] = b"0123456789abcdef"[(left % radix) as usize];
+            left /= radix;
+        }
+        text
+    }
+}
 
 // The name with a number.
 fn name_of(n: u32, names: &[&'static [u8]]) -> &'static [u8]

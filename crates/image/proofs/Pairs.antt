@@ -2,7 +2,7 @@
 use Rattle.std.proofs.Common.{◌≡◌, ℕ, zero, suc, ◌+◌, ◌*◌, ◌<◌, ◌≤◌, List, length, ap, inl, inr, add-one, arith, length-drop, length-take, take, drop, get_or, ◌∙◌}
 use Rattle.std.proofs.Math.Seq.{drop-drop}
 use Rattle.std.proofs.lemmas.Bool.{cases_lt}
-use Rattle.image.specs.declared.directory.Directory.{Directory}
+use Rattle.image.specs.declared.image.Directory.{Directory}
 use Rattle.image.specs.Directory.{number, count_of, offset_of, length_of, end_of, floor_of, words_before, start_of, part_of}
 use Rattle.image.specs.Directory.{RightPairs, Right}
 use Rattle.image.specs.Words.{words_in}

@@ -3,7 +3,7 @@
 use Rattle.std.specs.Prelude.{◌≡◌, ℕ, ◌<◌, ◌≤◌, List, length, Ok, Err, Result, ◌≢◌}
 use Rattle.refusal.specs.declared.Refusal.{Refusal}
 use Rattle.refusal.specs.declared.Refusal.TheVariants as refused
-use Rattle.image.specs.declared.directory.Directory.{Directory}
+use Rattle.image.specs.declared.image.Directory.{Directory}
 use Rattle.image.specs.declared.image.Image.{Image}
 use Rattle.image.specs.Directory.{count_of, end_of_directory, start_of, Listed, RightPairs, Right}
 

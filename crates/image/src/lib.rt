@@ -1,7 +1,6 @@
 // Program images: checking, segments, and placing on a card.
 #![tactic(auto)]
 
-mod directory;
 pub mod image;
 pub mod placing;
 pub mod segment;

@@ -2,8 +2,7 @@
 ghost use Rattle.std.specs.Prelude.{◌≡◌, [], ◌∷◌};
 ghost use Rattle.image.specs.Check.{bytes_of, Checked};
 
-use super::Image;
-use crate::directory::Directory;
+use super::{Directory, Image};
 use refusal::Refusal;
 
 impl<'a> Image<'a> {

@@ -1,7 +1,5 @@
 // The segments of an image, by number.
-ghost use Rattle.std.specs.Prelude.{◌<◌, Some};
 ghost use Rattle.image.specs.Check.{bytes_of};
-ghost use Rattle.image.specs.Directory.{count_of};
 ghost use Rattle.image.specs.Segments.{Shown};
 
 use super::Image;
@@ -16,20 +14,6 @@ impl<'a> Image<'a> {
             Some(self.segment_at(n))
         } else {
             None
-        }
-    }
-
-    pub(super) fn segment_at(&self, n: usize) -> Segment<'a>
-        requires { n < count_of (bytes_of self.now) }
-        ensures { Shown (bytes_of self.now) n (Some result) }
-    {
-        let bytes = self.directory.bytes;
-        let pair = self.directory.pair(n);
-        let start = self.directory.start(n);
-        let end = start + 4 * pair.length as usize;
-        Segment {
-            offset: pair.offset,
-            words: &bytes[start..end],
         }
     }
 }

@@ -1,7 +1,7 @@
 use Rattle.std.proofs.Common.{rules, arith, ◌<◌, []}
 use Rattle.std.proofs.lemmas.List.{get_or-take}
 use Rattle.image.proofs.Pairs.{pair_length, words_more}
-use Rattle.image.proofs.directory.Directory.words_before.Goals as goal
+use Rattle.image.proofs.image.Directory.words_before.Goals as goal
 
 pub loop-bytes-preserved : goal.loop-bytes-preserved
 loop-bytes-preserved c =

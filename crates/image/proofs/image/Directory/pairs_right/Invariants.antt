@@ -1,6 +1,6 @@
 use Rattle.std.proofs.Common.{◌≡◌}
 use Rattle.image.specs.Directory.{floor_of, RightPairs}
-use Rattle.image.proofs.directory.Directory.pairs_right.Given as goal
+use Rattle.image.proofs.image.Directory.pairs_right.Given as goal
 
 abbrev pub invariant-loop-bytes : goal.invariant-loop-bytes
 invariant-loop-bytes l =

@@ -4,7 +4,7 @@ use Rattle.std.specs.Simd.{first_chunks}
 use Rattle.image.specs.Directory.{number, count_of}
 use Rattle.image.specs.Check.{no_count, too_many, cut_short}
 use Rattle.image.proofs.Chunks.{take-first_chunks}
-use Rattle.image.proofs.directory.DirectoryTryFromRefSliceU8.try_from.Goals as goal
+use Rattle.image.proofs.image.DirectoryTryFromRefSliceU8.try_from.Goals as goal
 
 pub returns-in_err-count : goal.returns-in_err-count
 returns-in_err-count c =

@@ -1,6 +1,6 @@
 use Rattle.std.proofs.Common.{◌≡◌, ◌*◌, ◌^◌, ◌≤◌}
 use Rattle.image.specs.Directory.{words_before}
-use Rattle.image.proofs.directory.Directory.words_before.Given as goal
+use Rattle.image.proofs.image.Directory.words_before.Given as goal
 
 abbrev pub invariant-loop-bytes : goal.invariant-loop-bytes
 invariant-loop-bytes l =

@@ -1,7 +1,7 @@
 use Rattle.std.proofs.Common.{rules, below_more, arith, ◌<◌, []}
 use Rattle.image.specs.Directory.{count_of, RightPair}
 use Rattle.image.proofs.Pairs.{pair_offset, pair_length, floor_more}
-use Rattle.image.proofs.directory.Directory.pairs_right.Goals as goal
+use Rattle.image.proofs.image.Directory.pairs_right.Goals as goal
 
 pub returns-then-pair-eq0 : goal.returns-then-pair-eq0
 returns-then-pair-eq0 c right =
