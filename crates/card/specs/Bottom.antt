@@ -1,19 +1,16 @@
 -- The meaning of the two bottom cards, which lie over lent words.
 -- A reader must believe: address n has a cell if word n is there and n is below 65,536, and is absent otherwise, with
 -- the card itself as origin. The word card's cells are open, the boot card's fixed. No transfer has a wait.
-use Rattle.std.specs.Prelude.{◌≡◌, ℕ, Bool, cond, ◌&&◌, List, length, Some, None, Ok, Err, Option, Result, nat_lt, slice_index, slice_set}
+use Rattle.std.specs.Prelude.{◌≡◌, ℕ, Bool, cond, ◌&&◌, List, length, Some, None, Option, nat_lt, slice_index, slice_set}
 use Rattle.std.specs.Borrow.{MutBor}
 use Rattle.std.specs.Option as options
-use Rattle.refusal.specs.declared.Refusal.{Refusal}
-use Rattle.refusal.specs.declared.Refusal.TheVariants as refused
-use Rattle.card.specs.declared.cell.Cell.{Cell}
 use Rattle.card.specs.declared.cell.Cell.TheVariants.{Absent, Fixed, Open}
 use Rattle.card.specs.declared.cell.Origin.{Origin}
 use Rattle.card.specs.declared.transfer.Direction.{Direction}
 use Rattle.card.specs.declared.transfer.Direction.TheVariants.{Read, Write}
 use Rattle.card.specs.declared.transfer.Request.{Request}
 use Rattle.card.specs.declared.transfer.Transfer.{Transfer}
-use Rattle.card.specs.Ends.{Map, stored}
+use Rattle.card.specs.Ends.{Map}
 use Rattle.card.specs.Meaning.{Meaning}
 
 -- The origin of a refusal by the card itself.
@@ -52,15 +49,6 @@ pub record Keeps (before after : MutBor (List ℕ)) (words : List ℕ) : Type 0 
 -- Words that are lent for writing, after w was stored at the address a.
 abbrev pub Written : MutBor (List ℕ) → ℕ → ℕ → MutBor (List ℕ) → Type 0
 Written before a w after = Keeps before after (written before.now a w)
-
--- Storing a word in an open cell of a map; refused elsewhere.
-abbrev pub StoredAt : Cell → Map → ℕ → ℕ → Result (Unit {0}) Refusal → Map → Type 0
-StoredAt (Absent o) f a w r g = (r ≡ Err refused.NotOpen) × (g ≡ f)
-StoredAt (Fixed v o) f a w r g = (r ≡ Err refused.NotOpen) × (g ≡ f)
-StoredAt (Open v) f a w r g = (r ≡ Ok tt) × (g ≡ stored f a w)
-
-abbrev pub Stored : Map → ℕ → ℕ → Result (Unit {0}) Refusal → Map → Type 0
-Stored f a w r g = StoredAt (f a) f a w r g
 
 -- A memory after the request in being, if any, has ended, by what storing a word leaves of it.
 abbrev pub AfterRequest : {X : Type 0} → (X → ℕ → ℕ → X → Type 0) → Direction → ℕ → X → X → Type 0

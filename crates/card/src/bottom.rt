@@ -5,7 +5,7 @@ ghost use Rattle.std.specs.Prelude.{◌≡◌, ◌≤◌, ℕ, None};
 ghost use Rattle.std.proofs.Common.{zero-le};
 ghost use Rattle.card.specs.Ends.{Map};
 ghost use Rattle.card.specs.Meaning.{Placed, Begun, Answered, idle};
-ghost use Rattle.card.specs.Bottom.{addressed, open_cells, fixed_cells, bottom, Stored, After, Written};
+ghost use Rattle.card.specs.Bottom.{addressed, open_cells, fixed_cells, bottom, After, Written};
 
 use super::card::{Card, Cells};
 use super::cell::{Cell, Origin};
@@ -19,8 +19,9 @@ fn has_word(count: usize, address: u32) -> bool
     (address as usize) < count && address < 65_536
 }
 
-// Words as the cells of a card.
+// Lent words as the cells of a card.
 pub trait Memory {
+    // The cell at each address.
     ghost cells: { Self → Map };
 
     // What is left of a memory after a word was stored at an address.
@@ -31,7 +32,8 @@ pub trait Memory {
 
     // Stores a word in an open cell; refused elsewhere.
     fn store(&mut self, address: u32, word: u32) -> Result<(), Refusal>
-        ensures cells { Stored (cells self.old) address word result (cells self.new) }
+        ensures cells { Placed (bottom (cells self.old) None) address word
+            result (bottom (cells self.new) None) }
         ensures rewritten { Rewritten self.old address word self.new };
 }
 
@@ -82,9 +84,10 @@ pub struct BottomCard<M> {
     request: Option<Request>,
 }
 
-// The word card lies over words that are lent for writing, the boot card over words that are lent for reading.
+// Open cells over words that are lent for writing.
 pub type WordCard<'a> = BottomCard<&'a mut [u32]>;
 
+// Fixed cells over words that are lent for reading.
 pub type BootCard<'a> = BottomCard<&'a [u32]>;
 
 impl<M> BottomCard<M> {
@@ -141,6 +144,7 @@ impl<M: Memory> Card for BottomCard<M> {
         ensures memory { After M.Rewritten self.old.request self.old.memory self.new.memory }
     {
         let request = self.request.take().ok_or(Refusal::Transfer)?;
+        // as `finish` does, which would say nothing of the memory
         let end = request.direction.end(self.memory.cell(request.address));
         if let Direction::Write(word) = request.direction {
             // refused where the cell is not open, and then nothing changes

@@ -1,5 +1,6 @@
 // A card with a cell at every address: the eight first and the eight last addresses are open, all others hold a fixed
-// zero. Its transfers wait by their address, up to three times.
+// zero. Its transfers wait by their address, up to three times. Its begin, poll and cancel are nearly a layer's: they are few
+// lines, and a card over any cells that both could be would need more.
 ghost use Rattle.std.specs.Prelude.{◌≡◌, ◌≤◌};
 ghost use Rattle.model_tests.specs.Edge.{edge_meaning, patient};
 
