@@ -106,6 +106,7 @@ fn load(heap: Global, words: &mut Words<'_>) -> Result<Command, Wrong>
 fn power(words: &mut Words<'_>) -> Result<Command, Wrong>
     ensures { parsed result words.new ≡ power_of words.old }
 {
+    // in place of a `match`, whose proof does not close for a text of eleven bytes followed by `?`
     if words.operand()? != b"instruction".as_slice() {
         return Err(Wrong::UnknownMachine);
     }

@@ -108,7 +108,7 @@ impl Wrong {
     }
 }
 
-// by hand, since the derive of `thiserror` gives no `output`
+// by hand, since what `thiserror` derives promises no text
 impl fmt::Display for Wrong {
     ghost output = { λ w. Some (text_of w) };
 
