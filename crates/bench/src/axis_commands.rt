@@ -1,20 +1,53 @@
-// The commands of an instruction machine.
+// The commands of an instruction machine. What they print is the bench's format, so it stands here and in no `Display` of the
+// library's types.
+use super::stack::Task;
 use card::Card;
 use fault_line::{Fields, write_line};
 use machine::{Machine, Outcome};
 use refusal::Refusal;
 use std::io;
 
-// Powers a machine up on the card; None where that is refused.
-pub fn power<C: Card>(rt: &HostRuntime, card: &mut C, axis: u32) -> io::Result<Option<Machine>> {
-    match Machine::power_up(axis, card) {
-        Ok(machine) => {
-            println!(rt; "power ok")?;
-            Ok(Some(machine))
+// Powering a machine up on the card; None where that is refused.
+#[derive(Drop)]
+pub struct PowerUp {
+    pub axis: u32,
+}
+
+impl Task for PowerUp {
+    type Answer = Option<Machine>;
+
+    fn perform<C: Card>(self, rt: &HostRuntime, card: &mut C) -> io::Result<Option<Machine>> {
+        match Machine::power_up(self.axis, card) {
+            Ok(machine) => {
+                println!(rt; "power ok")?;
+                Ok(Some(machine))
+            }
+            Err(refusal) => {
+                println!(rt; "power refused {refusal}")?;
+                Ok(None)
+            }
         }
-        Err(refusal) => {
-            println!(rt; "power refused {refusal}")?;
-            Ok(None)
+    }
+}
+
+// At most so many instructions of a machine.
+#[derive(Drop)]
+pub struct Run<'m> {
+    pub machine: &'m mut Machine,
+    pub count: u32,
+}
+
+impl Task for Run<'_> {
+    type Answer = ();
+
+    fn perform<C: Card>(self, rt: &HostRuntime, card: &mut C) -> io::Result<()> {
+        let Run { machine, count } = self;
+        let (accepted, last) = instructions(machine, card, count);
+        match last {
+            Ok(Outcome::Done) => println!(rt; "instruction {accepted} done"),
+            Ok(Outcome::Ignored) => println!(rt; "instruction {accepted} ignored"),
+            Ok(Outcome::Halted) => println!(rt; "instruction {accepted} halted"),
+            Err(refusal) => println!(rt; "instruction {accepted} refused {refusal}"),
         }
     }
 }
@@ -34,26 +67,6 @@ fn instructions<C: Card>(
         }
     }
     (count, Ok(last))
-}
-
-pub fn run<C: Card>(
-    rt: &HostRuntime,
-    machine: &mut Machine,
-    card: &mut C,
-    count: u32,
-) -> io::Result<()> {
-    let (accepted, last) = instructions(machine, card, count);
-    match last {
-        Ok(Outcome::Done) => println!(rt; "instruction {accepted} done"),
-        Ok(Outcome::Ignored) => println!(rt; "instruction {accepted} ignored"),
-        Ok(Outcome::Halted) => println!(rt; "instruction {accepted} halted"),
-        Err(refusal) => println!(rt; "instruction {accepted} refused {refusal}"),
-    }
-}
-
-pub fn reset(rt: &HostRuntime, machine: &mut Machine) -> io::Result<()> {
-    machine.reset();
-    println!(rt; "reset ok")
 }
 
 // The registers that are not zero.
@@ -89,6 +102,7 @@ pub fn fault(rt: &HostRuntime, machine: &Machine) -> io::Result<()> {
     let Some(fault) = machine.fault() else {
         return println!(rt; "fault none");
     };
+    // here and in no `From`, since the crates of the fault and of the line do not know each other
     let fields = Fields {
         axis: fault.axis.into(),
         stage: fault.stage.into(),
@@ -100,18 +114,16 @@ pub fn fault(rt: &HostRuntime, machine: &Machine) -> io::Result<()> {
     };
     let mut line = [0u8; 48];
     match write_line(fields, &mut line) {
-        Ok(length) => print_line(rt, &line, length),
+        Ok(length) => print_text(rt, &line[..length]),
         // its fields are right by the fault's type and the buffer is long enough, so none is ever refused
-        Err(refusal) => println!(rt; "fault has no line: {refusal}"),
+        Err(_) => println!(rt; "fault has no line"),
     }
 }
 
 // The line's text, which is ASCII.
-fn print_line(rt: &HostRuntime, line: &[u8], length: usize) -> io::Result<()> {
-    if let Some(bytes) = line.get(..length)
-        && let Ok(text) = std::str::from_utf8(bytes)
-    {
-        return print!(rt; "{text}");
+fn print_text(rt: &HostRuntime, line: &[u8]) -> io::Result<()> {
+    match std::str::from_utf8(line) {
+        Ok(text) => print!(rt; "{text}"),
+        Err(_) => println!(rt; "fault has no line"),
     }
-    println!(rt; "fault has no line")
 }

@@ -1,10 +1,10 @@
-// Looking at the cells of a card, placing a word, and loading an image.
-use super::desk::{Desk, Misplaced};
+// Looking at the cells of a card, placing a word, and placing an image. What is printed is the bench's format, so it stands here
+// and in no `Display` of the library's types.
 use super::stack::Task;
-use card::{Card, Cell, Cells};
+use card::{Card, Cell, Origin};
 use image::Image;
 use refusal::Refusal;
-use std::{fs, io};
+use std::{fmt, io};
 
 // The cell at an address.
 #[derive(Drop)]
@@ -24,26 +24,28 @@ pub struct Place {
     pub word: u32,
 }
 
-// An image for the card, by its file's name.
+// The bytes of an image, which may be wrong.
 #[derive(Drop)]
 pub struct Load(pub Vec<u8>);
+
+// By whom a cell is refused, as it is printed.
+#[derive(Clone, Copy)]
+struct By(Origin);
+
+impl fmt::Display for By {
+    fn fmt<W: fmt::Write>(&self, f: &mut fmt::Formatter<W>) -> fmt::Result {
+        write!(f, "{:08x} L{:03}", self.0.address, self.0.layer)
+    }
+}
 
 impl Task for Look {
     type Answer = ();
 
-    fn perform<C: Card>(self, desk: &mut Desk, card: &mut C) -> io::Result<()> {
+    fn perform<C: Card>(self, rt: &HostRuntime, card: &mut C) -> io::Result<()> {
         match card.look(self.0) {
-            Cell::Open(word) => println!(desk.rt; "look open {word:08x}"),
-            Cell::Fixed(word, origin) => {
-                let at = origin.address;
-                let layer = origin.layer;
-                println!(desk.rt; "look fixed {word:08x} {at:08x} L{layer:03}")
-            }
-            Cell::Absent(origin) => {
-                let at = origin.address;
-                let layer = origin.layer;
-                println!(desk.rt; "look absent {at:08x} L{layer:03}")
-            }
+            Cell::Open(word) => println!(rt; "look open {word:08x}"),
+            Cell::Fixed(word, origin) => println!(rt; "look fixed {word:08x} {}", By(origin)),
+            Cell::Absent(origin) => println!(rt; "look absent {}", By(origin)),
         }
     }
 }
@@ -51,13 +53,12 @@ impl Task for Look {
 impl Task for Dump {
     type Answer = ();
 
-    fn perform<C: Card>(self, desk: &mut Desk, card: &mut C) -> io::Result<()> {
-        for i in 0..self.count {
-            let address = self.from.wrapping_add(i);
+    fn perform<C: Card>(self, rt: &HostRuntime, card: &mut C) -> io::Result<()> {
+        for address in (0..self.count).map(|i| self.from.wrapping_add(i)) {
             match card.look(address) {
-                Cell::Open(word) => println!(desk.rt; "{address:08x} open {word:08x}")?,
-                Cell::Fixed(word, _) => println!(desk.rt; "{address:08x} fixed {word:08x}")?,
-                Cell::Absent(_) => println!(desk.rt; "{address:08x} absent")?,
+                Cell::Open(word) => println!(rt; "{address:08x} open {word:08x}")?,
+                Cell::Fixed(word, _) => println!(rt; "{address:08x} fixed {word:08x}")?,
+                Cell::Absent(_) => println!(rt; "{address:08x} absent")?,
             }
         }
         Ok(())
@@ -67,10 +68,10 @@ impl Task for Dump {
 impl Task for Place {
     type Answer = ();
 
-    fn perform<C: Card>(self, desk: &mut Desk, card: &mut C) -> io::Result<()> {
+    fn perform<C: Card>(self, rt: &HostRuntime, card: &mut C) -> io::Result<()> {
         match card.place(self.address, self.word) {
-            Ok(()) => println!(desk.rt; "place ok"),
-            Err(refusal) => println!(desk.rt; "place refused {refusal}"),
+            Ok(()) => println!(rt; "place ok"),
+            Err(refusal) => println!(rt; "place refused {refusal}"),
         }
     }
 }
@@ -78,27 +79,18 @@ impl Task for Place {
 impl Task for Load {
     type Answer = ();
 
-    fn perform<C: Card>(self, desk: &mut Desk, card: &mut C) -> io::Result<()> {
-        let Some(bytes) = read_file(desk.rt, &self.0) else {
-            return desk.misplaced(Misplaced::Unreadable);
-        };
-        let image = match Image::try_from(bytes.as_slice()) {
+    fn perform<C: Card>(self, rt: &HostRuntime, card: &mut C) -> io::Result<()> {
+        let image = match Image::try_from(self.0.as_slice()) {
             Ok(image) => image,
-            Err(refusal) => return println!(desk.rt; "load refused {refusal}"),
+            Err(refusal) => return println!(rt; "load refused {refusal}"),
         };
         match image.place(card) {
-            Ok(()) => println!(desk.rt; "load ok"),
+            Ok(()) => println!(rt; "load ok"),
             Err(refused) => {
                 let refusal = Refusal::from(refused);
                 let address = refused.address;
-                println!(desk.rt; "load refused {refusal} at {address:08x}")
+                println!(rt; "load refused {refusal} at {address:08x}")
             }
         }
     }
-}
-
-// The bytes of a file, if it can be read.
-fn read_file(rt: &HostRuntime, name: &[u8]) -> Option<Vec<u8>> {
-    let path = std::str::from_utf8(name).ok()?;
-    fs::read(rt, path).ok()
 }

@@ -3,24 +3,26 @@
 #![tactic(auto)]
 
 use anyhow::anyhow;
-use desk::Desk;
-use input::Input;
+use scenario::Scenario;
 
 mod axis_commands;
 mod cells;
-mod desk;
 mod input;
+mod memory;
+mod mistake;
 mod scenario;
 mod stack;
 
 fn main(rt: HostRuntime) -> anyhow::Result<()> {
-    let Some(input) = Input::gather(&rt)? else {
-        return Err(anyhow!("a file cannot be read"));
-    };
-    let lines = input.lines(rt.alloc())?;
-    let mut desk = Desk::new(&rt, &lines);
-    scenario::play(&mut desk)?;
-    if desk.all_right() {
+    let files = input::gather(&rt)?.ok_or_else(|| anyhow!("a file cannot be read"))?;
+    let mut scenario = Scenario::new(&rt);
+    for file in &files {
+        // lines are counted from 1 in each file
+        for (number, line) in (1u64..).zip(file.split(|byte| *byte == b'\n')) {
+            scenario.line(number, line)?;
+        }
+    }
+    if scenario.all_right() {
         Ok(())
     } else {
         Err(anyhow!("a line is wrong"))

@@ -1,5 +1,5 @@
-// A stack of up to three layers over a bottom card. A stack is a type, and so is how many more layers it may get.
-use super::desk::Desk;
+// A stack of up to three layers over a bottom card. A stack is a type, and so is how many more layers it may get: a `dyn Card`
+// has no proof yet behind a `&`.
 use card::Card;
 use layer::{Kind, Layer};
 use std::io;
@@ -8,13 +8,13 @@ use std::io;
 pub trait Task: Drop {
     type Answer;
 
-    fn perform<C: Card>(self, desk: &mut Desk, card: &mut C) -> io::Result<Self::Answer>;
+    fn perform<C: Card>(self, rt: &HostRuntime, card: &mut C) -> io::Result<Self::Answer>;
 }
 
-pub trait Room {
+pub trait Height {
     // Puts the layers on the card, from the lowest up, and does the task on the whole stack.
     fn perform<C: Card + Drop, T: Task>(
-        desk: &mut Desk,
+        rt: &HostRuntime,
         card: C,
         layers: &[Kind],
         task: T,
@@ -22,34 +22,34 @@ pub trait Room {
 }
 
 // No more layers.
-pub struct Full;
+pub struct NoLayer;
 
-// One more layer, and then as many as `R` has.
-pub struct OneMore<R>(R);
+// One more layer, and then as many as `H` has.
+pub struct OneMore<H>(H);
 
-pub type ThreeLayers = OneMore<OneMore<OneMore<Full>>>;
+pub type UpToThree = OneMore<OneMore<OneMore<NoLayer>>>;
 
-impl Room for Full {
+impl Height for NoLayer {
     fn perform<C: Card + Drop, T: Task>(
-        desk: &mut Desk,
+        rt: &HostRuntime,
         mut card: C,
         _layers: &[Kind],
         task: T,
     ) -> io::Result<T::Answer> {
-        task.perform(desk, &mut card)
+        task.perform(rt, &mut card)
     }
 }
 
-impl<R: Room> Room for OneMore<R> {
+impl<H: Height> Height for OneMore<H> {
     fn perform<C: Card + Drop, T: Task>(
-        desk: &mut Desk,
+        rt: &HostRuntime,
         mut card: C,
         layers: &[Kind],
         task: T,
     ) -> io::Result<T::Answer> {
         match layers {
-            [] => task.perform(desk, &mut card),
-            [kind, rest @ ..] => R::perform(desk, Layer::new(*kind, card), rest, task),
+            [] => task.perform(rt, &mut card),
+            [kind, rest @ ..] => H::perform(rt, Layer::new(*kind, card), rest, task),
         }
     }
 }

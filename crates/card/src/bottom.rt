@@ -5,7 +5,7 @@ ghost use Rattle.std.specs.Prelude.{◌≡◌, ◌≤◌, ℕ, None};
 ghost use Rattle.std.proofs.Common.{zero-le};
 ghost use Rattle.card.specs.Ends.{Map};
 ghost use Rattle.card.specs.Meaning.{Placed, Begun, Answered, idle};
-ghost use Rattle.card.specs.Bottom.{addressed, open_cells, fixed_cells, bottom, After, Written};
+ghost use Rattle.card.specs.Bottom.{addressed, open_cells, fixed_cells, bottom, After, Keeps, Written};
 
 use super::card::{Card, Cells};
 use super::cell::{Cell, Origin};
@@ -91,8 +91,7 @@ pub type WordCard<'a> = BottomCard<&'a mut [u32]>;
 pub type BootCard<'a> = BottomCard<&'a [u32]>;
 
 impl<M> BottomCard<M> {
-    // A card over the words, without a transfer. Words past the first 65,536 have no address.
-    pub fn new(memory: M) -> BottomCard<M>
+    fn over(memory: M) -> BottomCard<M>
         ensures memory { result.memory ≡ memory }
         ensures idle { result.request ≡ None }
     {
@@ -100,6 +99,27 @@ impl<M> BottomCard<M> {
             memory,
             request: None,
         }
+    }
+}
+
+// Each card is made by a function of its own: an array or a `Vec` is lent as a slice only where the parameter is a slice.
+impl<'a> BottomCard<&'a mut [u32]> {
+    // A card over the words, without a transfer. Words past the first 65,536 have no address.
+    pub fn new(words: &'a mut [u32]) -> WordCard<'a>
+        ensures words { Keeps words.entry result.memory words.old }
+        ensures idle { result.request ≡ None }
+    {
+        WordCard::over(words)
+    }
+}
+
+impl<'a> BottomCard<&'a [u32]> {
+    // A card over the words, without a transfer. Words past the first 65,536 have no address.
+    pub fn new(words: &'a [u32]) -> BootCard<'a>
+        ensures words { result.memory.now ≡ words.now }
+        ensures idle { result.request ≡ None }
+    {
+        BootCard::over(words)
     }
 }
 

@@ -18,7 +18,7 @@ abbrev pub Completed : Meaning → Request → Result End Refusal → Meaning �
 Completed m q r n = CompletedFrom m.transfer m q r n
 
 -- The same by a card that is lent without a transfer: it ends, and the loan is the same afterwards.
-pub record Ends {X : Type 0} (meaning : X → Meaning) (q : Request) (c : MutBor X) (r : End) (d : MutBor X) : Type 0 where
+pub record Accesses {X : Type 0} (meaning : X → Meaning) (q : Request) (c : MutBor X) (r : End) (d : MutBor X) : Type 0 where
   pub end : r ≡ end_of q.direction ((meaning c.now).map q.address)
   pub after : meaning d.now ≡ finished q (meaning c.now)
   pub lender : d.ghost_name ≡ c.ghost_name

@@ -38,7 +38,7 @@ pub record Takes (s : Option Outcome × State) (c : Meaning) (r : Result Outcome
   pub patience : d.patience ≡ c.patience
 
 -- What a part of an instruction answers and leaves, where a fault is answered and not yet recorded. Used by private
--- functions only, as all up to `word_of`.
+-- functions only, as all up to `word_or_fault`.
 abbrev pub outcome_of : Result Outcome Record → Outcome
 outcome_of (Ok o) = o
 outcome_of (Err f) = Halted
@@ -56,9 +56,9 @@ pub record Executes {X : Type 0} (meaning : X → Meaning) (f : State → Step) 
   pub lender : d.ghost_name ≡ c.ghost_name
 
 -- The word of an access of the machine, or the fault that the access is at a stage.
-abbrev pub word_of : Machine → Stage → ℕ → End → Result ℕ Record
-word_of m stage access (Ok w) = Ok w
-word_of m stage access (Err f) =
+abbrev pub word_or_fault : Machine → Stage → ℕ → End → Result ℕ Record
+word_or_fault m stage access (Ok w) = Ok w
+word_or_fault m stage access (Err f) =
     Err
     (record {
       axis = m.axis;

@@ -1,7 +1,7 @@
 // Whole transfers of a card.
 ghost use Rattle.std.specs.Prelude.{◌≡◌, None};
 ghost use Rattle.card.specs.declared.transfer.Direction.TheVariants.{Write};
-ghost use Rattle.machine.specs.Access.{Completed, Ends, Reads};
+ghost use Rattle.machine.specs.Access.{Completed, Accesses, Reads};
 
 use card::{Card, Direction, End, Request};
 use refusal::Refusal;
@@ -28,12 +28,9 @@ pub(crate) struct IdleCard<'c, C: Card> {
 
 impl<'c, C: Card> IdleCard<'c, C> {
     fn access(&mut self, request: Request) -> End
-        ensures { Ends C.Cells.meaning request self.old.card result self.new.card }
+        ensures { Accesses C.Cells.meaning request self.old.card result self.new.card }
     {
-        match complete(self.card, request) {
-            Ok(end) => end,
-            Err(_) => unreachable!(),
-        }
+        complete(self.card, request).unwrap()
     }
 
     pub(crate) fn read(&mut self, address: u32) -> End
@@ -46,7 +43,7 @@ impl<'c, C: Card> IdleCard<'c, C> {
     }
 
     pub(crate) fn write(&mut self, address: u32, word: u32) -> End
-        ensures { Ends C.Cells.meaning (record { direction = Write word; address = address })
+        ensures { Accesses C.Cells.meaning (record { direction = Write word; address = address })
             self.old.card result self.new.card }
     {
         self.access(Request {

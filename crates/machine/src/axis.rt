@@ -4,7 +4,7 @@ ghost use Rattle.machine.specs.Axes.{axis_of, axis_number};
 
 use refusal::Refusal;
 
-#[derive(Clone, Copy)]
+#[derive(Clone, Copy, PartialEq, Eq, Debug)]
 pub enum Axis {
     One = 1,
     Two = 2,

@@ -7,7 +7,7 @@ ghost use Rattle.isa.specs.Opcodes.{class_of};
 ghost use Rattle.isa.specs.declared.opcodes.Class.TheVariants.{Load, Store};
 ghost use Rattle.isa.specs.Branch.{taken_by};
 ghost use Rattle.machine.specs.declared.fault.Stage.TheVariants.{Displacement};
-ghost use Rattle.machine.specs.Calls.{Stepped, Executes, word_of};
+ghost use Rattle.machine.specs.Calls.{Stepped, Executes, word_or_fault};
 ghost use Rattle.machine.specs.Laws.{Laws};
 ghost use Rattle.machine.specs.State.{state_of, plus, latched};
 ghost use Rattle.machine.specs.Step.{past, displacement, executed, branched, fetched};
@@ -15,7 +15,7 @@ ghost use Rattle.machine.specs.Step.{past, displacement, executed, branched, fet
 use super::access::{IdleCard, complete};
 use super::fault::{Fault, Stage};
 use super::machine::{Machine, Outcome};
-use card::{AccessFault, Card, Direction, End, Request};
+use card::{Card, Direction, End, Request};
 use isa::{Answer, Class, Flags, Form, Instruction, decode};
 use refusal::Refusal;
 
@@ -56,7 +56,7 @@ impl Machine {
         ensures { Executes C.Cells.meaning (fetched word)
             self.old card.old.card result self.new card.new.card }
     {
-        let instruction = Instruction::from(self.word_of(Stage::Fetch, self.pc, word)?);
+        let instruction = Instruction::from(self.word_or_fault(Stage::Fetch, self.pc, word)?);
         let first = self.registers.get(instruction.r1);
         match decode(instruction.opcode).class {
             Class::Arithmetic(operation) => {
@@ -95,20 +95,17 @@ impl Machine {
     }
 
     // The word of an access, or the fault that the access is.
-    fn word_of(&self, stage: Stage, access: u32, end: End) -> Result<u32, Fault>
-        ensures { result ≡ word_of self.now stage access end }
+    fn word_or_fault(&self, stage: Stage, access: u32, end: End) -> Result<u32, Fault>
+        ensures { result ≡ word_or_fault self.now stage access end }
     {
-        match end {
-            Ok(word) => Ok(word),
-            Err(AccessFault { cause, origin }) => Err(Fault {
-                axis: self.axis,
-                stage,
-                instruction: self.pc,
-                access,
-                cause,
-                origin,
-            }),
-        }
+        end.map_err(|refused| Fault {
+            axis: self.axis,
+            stage,
+            instruction: self.pc,
+            access,
+            cause: refused.cause,
+            origin: refused.origin,
+        })
     }
 
     // The displacement: i8 of the instruction itself, or the next word.
@@ -118,7 +115,7 @@ impl Machine {
         form: Form,
         instruction: Instruction,
     ) -> Result<u32, Fault>
-        ensures displacement { result ≡ word_of self.now Displacement (plus self.now.pc 1)
+        ensures displacement { result ≡ word_or_fault self.now Displacement (plus self.now.pc 1)
             (displacement form instruction (state_of self.now (C.Cells.meaning card.old.card.now).map)) }
         ensures same { C.Cells.meaning card.new.card.now ≡ C.Cells.meaning card.old.card.now }
         ensures lender { card.new.card.ghost_name ≡ card.old.card.ghost_name }
@@ -127,7 +124,7 @@ impl Machine {
             Form::Quick => Ok(instruction.immediate()),
             Form::Long => {
                 let next = self.pc.wrapping_add(1);
-                self.word_of(Stage::Displacement, next, card.read(next))
+                self.word_or_fault(Stage::Displacement, next, card.read(next))
             }
         }
     }
@@ -144,7 +141,7 @@ impl Machine {
     {
         let offset = self.displacement(card, form, instruction)?;
         let address = self.registers.get(instruction.r1).wrapping_add(offset);
-        let word = self.word_of(Stage::Load, address, card.read(address))?;
+        let word = self.word_or_fault(Stage::Load, address, card.read(address))?;
         self.registers.store(instruction.r3, word);
         self.pc = self.past(form);
         Ok(Outcome::Done)
@@ -163,7 +160,7 @@ impl Machine {
         let offset = self.displacement(card, form, instruction)?;
         let address = self.registers.get(instruction.r1).wrapping_add(offset);
         let word = self.registers.get(instruction.r3);
-        self.word_of(Stage::Store, address, card.write(address, word))?;
+        self.word_or_fault(Stage::Store, address, card.write(address, word))?;
         self.pc = self.past(form);
         Ok(Outcome::Done)
     }

@@ -6,7 +6,7 @@ use super::axis::Axis;
 use card::{Cause, Origin};
 
 // What the machine was doing when the card refused.
-#[derive(Clone, Copy)]
+#[derive(Clone, Copy, PartialEq, Eq, Debug)]
 pub enum Stage {
     Fetch = 1,
     Displacement = 2,
@@ -14,7 +14,7 @@ pub enum Stage {
     Store = 4,
 }
 
-#[derive(Clone, Copy)]
+#[derive(Clone, Copy, PartialEq, Eq, Debug)]
 pub struct Fault {
     pub axis: Axis,
     pub stage: Stage,

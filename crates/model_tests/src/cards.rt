@@ -1,7 +1,6 @@
 // The two bottom cards at their ends, and calls out of order.
-use card::{
-    AccessFault, BootCard, Card, Cause, Cell, Cells, Direction, End, Origin, Request, WordCard,
-};
+use super::common::fault;
+use card::{BootCard, Card, Cause, Cell, Cells, Direction, End, Origin, Request, WordCard};
 use refusal::Refusal;
 use std::process::Abort;
 use std::test::Fail;
@@ -9,11 +8,6 @@ use std::test::Fail;
 // The card itself, as the origin of a refusal.
 fn here(address: u32) -> Origin {
     Origin { address, layer: 0 }
-}
-
-fn fault(cause: Cause, address: u32) -> End {
-    let origin = here(address);
-    Err(AccessFault { cause, origin })
 }
 
 // A whole transfer without waits: how it ends.
@@ -39,7 +33,7 @@ fn word_card_at_its_ends(rt: HostRuntime) -> Result<(), Fail> {
     assert_eq!(rt; access(&mut card, Direction::Read, 2)?, Ok(9));
     assert_eq!(rt;
         access(&mut card, Direction::Write(9), 3)?,
-        fault(Cause::Absent, 3)
+        fault(Cause::Absent, 3, 0)
     );
     card.place(0, 4)?;
     assert_eq!(rt; card.place(3, 4), Err(Refusal::NotOpen));
@@ -68,11 +62,11 @@ fn boot_card_is_fixed(rt: HostRuntime) -> Result<(), Fail> {
     assert_eq!(rt; access(&mut card, Direction::Read, 1)?, Ok(6));
     assert_eq!(rt;
         access(&mut card, Direction::Read, 2)?,
-        fault(Cause::Absent, 2)
+        fault(Cause::Absent, 2, 0)
     );
     assert_eq!(rt;
         access(&mut card, Direction::Write(7), 1)?,
-        fault(Cause::Fixed, 1)
+        fault(Cause::Fixed, 1, 0)
     );
     assert_eq!(rt; card.place(1, 7), Err(Refusal::NotOpen));
     assert_eq!(rt; card.look(1), Cell::Fixed(6, here(1)));

@@ -1,6 +1,6 @@
 // A card with a cell at every address: the eight first and the eight last addresses are open, all others hold a fixed
-// zero. Its transfers wait by their address, up to three times. Its begin, poll and cancel are nearly a layer's: they are few
-// lines, and a card over any cells that both could be would need more.
+// zero. Its transfers wait by their address, up to three times. Its poll is a layer's: what both share stands in `after_wait` and
+// `finish`, and a card over any cells that both could be would be longer.
 ghost use Rattle.std.specs.Prelude.{◌≡◌, ◌≤◌};
 ghost use Rattle.model_tests.specs.Edge.{edge_meaning, patient};
 
@@ -9,9 +9,19 @@ use refusal::Refusal;
 
 #[derive(Drop)]
 pub struct EdgeCard {
-    pub first: [u32; 8],
-    pub last: [u32; 8],
-    pub transfer: Option<Transfer>,
+    first: [u32; 8],
+    last: [u32; 8],
+    transfer: Option<Transfer>,
+}
+
+impl EdgeCard {
+    pub fn new(first: [u32; 8], last: [u32; 8]) -> EdgeCard {
+        EdgeCard {
+            first,
+            last,
+            transfer: None,
+        }
+    }
 }
 
 impl Cells for EdgeCard {

@@ -5,18 +5,10 @@ use machine::{Machine, Outcome};
 use refusal::Refusal;
 use std::test::Fail;
 
-fn over(first: [u32; 8], last: [u32; 8]) -> EdgeCard {
-    EdgeCard {
-        first,
-        last,
-        transfer: None,
-    }
-}
-
 // biq r1 + i8 at 0 goes to 0xffffffff; there a long branch has its displacement at 0, and its base is 1.
 #[test]
 fn branch_at_the_last_address(rt: HostRuntime) -> Result<(), Fail> {
-    let mut card = over(
+    let mut card = EdgeCard::new(
         [0x5100_00ff, 0, 0, 0, 0, 0, 0, 0],
         [0, 0, 0, 0, 0, 0, 0, 0x4000_0000],
     );
@@ -33,7 +25,7 @@ fn branch_at_the_last_address(rt: HostRuntime) -> Result<(), Fail> {
 fn load_and_store_at_the_last_addresses(rt: HostRuntime) -> Result<(), Fail> {
     let first = [0x5100_00fe, 0x5100_00ff, 0, 0, 0, 0, 0, 0];
     let last = [0, 0, 0, 0, 0, 0, 0x2102_0000, 0x2002_0000];
-    let mut card = over(first, last);
+    let mut card = EdgeCard::new(first, last);
     let mut axis = Machine::power_up(2, &mut card)?;
     // at 0xfffffffe the store's displacement is the word at 0xffffffff, a fixed cell's address
     assert_eq!(rt; axis.instruction(&mut card), Ok(Outcome::Done));
@@ -57,7 +49,7 @@ fn load_and_store_at_the_last_addresses(rt: HostRuntime) -> Result<(), Fail> {
 // A foreign transfer refuses an instruction and stays; power-up cancels it; a refused power-up does not.
 #[test]
 fn foreign_transfer(rt: HostRuntime) -> Result<(), Fail> {
-    let mut card = over([0x0800_0000, 0, 0, 0, 0, 0, 0, 0], [0; 8]);
+    let mut card = EdgeCard::new([0x0800_0000, 0, 0, 0, 0, 0, 0, 0], [0; 8]);
     let mut axis = Machine::power_up(3, &mut card)?;
     let request = Request {
         direction: Direction::Read,
@@ -79,14 +71,14 @@ fn foreign_transfer(rt: HostRuntime) -> Result<(), Fail> {
 #[test]
 fn past_the_last_address(rt: HostRuntime) -> Result<(), Fail> {
     let first = [0x5100_00fe, 0, 0, 0, 0, 0, 0, 0];
-    let mut card = over(first, [0, 0, 0, 0, 0, 0, 0x2103_0000, 0x0000_0005]);
+    let mut card = EdgeCard::new(first, [0, 0, 0, 0, 0, 0, 0x2103_0000, 0x0000_0005]);
     let mut axis = Machine::power_up(1, &mut card)?;
     assert_eq!(rt; axis.instruction(&mut card), Ok(Outcome::Done));
     assert!(rt; axis.pc() == 0xffff_fffe);
     card.place(5, 9)?;
     assert_eq!(rt; axis.instruction(&mut card), Ok(Outcome::Done));
     assert!(rt; axis.pc() == 0 && matches!(card.look(5), Cell::Open(0)));
-    let mut card = over([0x5100_00ff, 0, 0, 0, 0, 0, 0, 0], [0x1004_0006; 8]);
+    let mut card = EdgeCard::new([0x5100_00ff, 0, 0, 0, 0, 0, 0, 0], [0x1004_0006; 8]);
     let mut axis = Machine::power_up(1, &mut card)?;
     assert_eq!(rt; axis.instruction(&mut card), Ok(Outcome::Done));
     assert_eq!(rt; axis.instruction(&mut card), Ok(Outcome::Done));
@@ -97,7 +89,7 @@ fn past_the_last_address(rt: HostRuntime) -> Result<(), Fail> {
 // A halt is told before a transfer in being.
 #[test]
 fn halted_before_busy(rt: HostRuntime) -> Result<(), Fail> {
-    let mut card = over([0x2101_0000, 100, 0, 0, 0, 0, 0, 0], [0; 8]);
+    let mut card = EdgeCard::new([0x2101_0000, 100, 0, 0, 0, 0, 0, 0], [0; 8]);
     let mut axis = Machine::power_up(1, &mut card)?;
     assert_eq!(rt; axis.instruction(&mut card), Ok(Outcome::Halted));
     assert!(rt;

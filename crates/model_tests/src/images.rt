@@ -128,7 +128,9 @@ fn a_refusal_keeps_the_image(rt: HostRuntime) -> Result<(), Fail> {
         verdict(&bytes.as_flattened()[0..31]),
         Some(Refusal::Length)
     );
-    assert!(rt; image.segment(1).is_some());
+    let last = image.segment(1).ok_or("no last")?;
+    assert_eq!(rt; last.offset, 4);
+    assert_eq!(rt; last.words, [0, 0, 0, 9].as_slice());
     Ok(())
 }
 

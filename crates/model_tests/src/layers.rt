@@ -1,10 +1,8 @@
 // Layers: origins through a stack, waits, and what a layer leaves of the card below.
+use super::common::{fault, run};
 use super::edge_card::EdgeCard;
-use card::{
-    AccessFault, BootCard, Card, Cause, Cell, Cells, Direction, End, Origin, Request, WordCard,
-};
+use card::{BootCard, Card, Cause, Cell, Cells, Direction, End, Origin, Request, WordCard};
 use layer::{Kind, Layer};
-use machine::{Machine, Outcome};
 use refusal::Refusal;
 use std::process::Abort;
 use std::test::Fail;
@@ -15,11 +13,6 @@ fn absent(address: u32, layer: u8) -> Cell {
 
 fn fixed(word: u32, address: u32, layer: u8) -> Cell {
     Cell::Fixed(word, Origin { address, layer })
-}
-
-fn fault(cause: Cause, address: u32, layer: u8) -> End {
-    let origin = Origin { address, layer };
-    Err(AccessFault { cause, origin })
 }
 
 #[test]
@@ -90,11 +83,7 @@ fn waited<C: Card>(
 
 #[test]
 fn waits_through_a_stack(rt: HostRuntime) -> Result<(), Fail> {
-    let below = EdgeCard {
-        first: [0; 8],
-        last: [0; 8],
-        transfer: None,
-    };
+    let below = EdgeCard::new([0; 8], [0; 8]);
     let mut slow = Layer::new(Kind::Slow(200), below);
     assert_eq!(rt; slow.patience(), 203);
     assert_eq!(rt; waited(&rt, &mut slow, Direction::Read, 3)?, (203, Ok(0)));
@@ -130,11 +119,7 @@ fn waits_through_a_stack(rt: HostRuntime) -> Result<(), Fail> {
 // Making a layer cancels the transfer below, and cancelling the layer's own leaves the cells.
 #[test]
 fn made_during_a_transfer(rt: HostRuntime) -> Result<(), Fail> {
-    let mut below = EdgeCard {
-        first: [1; 8],
-        last: [2; 8],
-        transfer: None,
-    };
+    let mut below = EdgeCard::new([1; 8], [2; 8]);
     let request = Request {
         direction: Direction::Write(9),
         address: 3,
@@ -148,15 +133,6 @@ fn made_during_a_transfer(rt: HostRuntime) -> Result<(), Fail> {
     assert_eq!(rt; card.poll(), Err(Refusal::Transfer));
     assert_eq!(rt; card.look(3), Cell::Open(1));
     Ok(())
-}
-
-// Runs up to so many instructions, and answers the machine.
-fn run<C: Card>(rt: &impl Abort, card: &mut C, count: u32) -> Result<Machine, Fail> {
-    let mut axis = Machine::power_up(1, card)?;
-    for _ in 0..count {
-        assert!(rt; matches!(axis.instruction(card), Ok(Outcome::Done | Outcome::Ignored)));
-    }
-    Ok(axis)
 }
 
 // The chapter's test program on a stack of three slow layers, and on the bare card.

@@ -6,6 +6,8 @@ mod cards;
 #[cfg(test)]
 mod commands;
 #[cfg(test)]
+mod common;
+#[cfg(test)]
 mod edge_card;
 #[cfg(test)]
 mod edges;

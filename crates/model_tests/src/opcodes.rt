@@ -1,50 +1,35 @@
 // Every opcode once, and every branch mask at every setting of the flags, on a word card.
+use super::common::run;
 use card::{Cells, WordCard};
 use isa::Flags;
 use machine::{Machine, Outcome, marked_words};
-use std::process::Abort;
 use std::test::Fail;
 
-// Runs so many instructions of the words, which all have to be done.
-fn run(rt: &impl Abort, words: &mut [u32], count: u32) -> Result<Machine, Fail> {
-    let mut card = WordCard::new(words);
-    let mut axis = Machine::power_up(1, &mut card)?;
-    for _ in 0..count {
-        assert!(rt;
-            matches!(
-                axis.instruction(&mut card),
-                Ok(Outcome::Done | Outcome::Ignored)
-            )
-        );
-    }
-    Ok(axis)
-}
-
 // An opcode on r3 = 5, r1 = 2 and r2 = 3, which hold 100, 11 and 6, with the displacement 1: r5 and PC afterwards, and
-// whether the opcode is known. A branch has mask 5 and is taken, since V and Z are clear.
-fn expected(opcode: u8) -> (u32, u32, bool) {
+// the answer. A branch has mask 5 and is taken, since V and Z are clear.
+fn expected(opcode: u8) -> (u32, u32, Outcome) {
     match opcode {
-        0x00 => (17, 4, true),
-        0x01 => (5, 4, true),
-        0x02 => (66, 4, true),
-        0x03 => (1, 4, true),
-        0x04 => (2, 4, true),
-        0x05 => (15, 4, true),
-        0x06 => (13, 4, true),
-        0x07 => (9, 4, true),
-        0x10 => (14, 4, true),
-        0x11 => (8, 4, true),
-        0x12 => (33, 4, true),
-        0x13 => (3, 4, true),
-        0x20 => (0x44, 5, true),
-        0x21 => (100, 5, true),
-        0x30 => (0x66, 4, true),
-        0x31 => (100, 4, true),
-        0x40 => (100, 6, true),
-        0x41 => (100, 12, true),
-        0x50 => (100, 7, true),
-        0x51 => (100, 14, true),
-        _ => (100, 4, false),
+        0x00 => (17, 4, Outcome::Done),
+        0x01 => (5, 4, Outcome::Done),
+        0x02 => (66, 4, Outcome::Done),
+        0x03 => (1, 4, Outcome::Done),
+        0x04 => (2, 4, Outcome::Done),
+        0x05 => (15, 4, Outcome::Done),
+        0x06 => (13, 4, Outcome::Done),
+        0x07 => (9, 4, Outcome::Done),
+        0x10 => (14, 4, Outcome::Done),
+        0x11 => (8, 4, Outcome::Done),
+        0x12 => (33, 4, Outcome::Done),
+        0x13 => (3, 4, Outcome::Done),
+        0x20 => (0x44, 5, Outcome::Done),
+        0x21 => (100, 5, Outcome::Done),
+        0x30 => (0x66, 4, Outcome::Done),
+        0x31 => (100, 4, Outcome::Done),
+        0x40 => (100, 6, Outcome::Done),
+        0x41 => (100, 12, Outcome::Done),
+        0x50 => (100, 7, Outcome::Done),
+        0x51 => (100, 14, Outcome::Done),
+        _ => (100, 4, Outcome::Ignored),
     }
 }
 
@@ -75,12 +60,7 @@ fn each_opcode(rt: HostRuntime) -> Result<(), Fail> {
         for _ in 0..3 {
             assert_eq!(rt; axis.instruction(&mut card), Ok(Outcome::Done));
         }
-        let (r5, pc, known) = expected(opcode);
-        let outcome = if known {
-            Outcome::Done
-        } else {
-            Outcome::Ignored
-        };
+        let (r5, pc, outcome) = expected(opcode);
         assert_eq!(rt; axis.instruction(&mut card), Ok(outcome));
         assert_eq!(rt; axis.register(5), r5);
         assert_eq!(rt; axis.pc(), pc);
@@ -110,7 +90,7 @@ fn each_mask_at_each_setting(rt: HostRuntime) -> Result<(), Fail> {
             let [arithmetic, logic] = flag_setting(v, n, z);
             let branch = u32::from_be_bytes([0x50, mask, 0, 9]);
             let mut words = [0x3001_0004, arithmetic, logic, branch, 0x8000_0000];
-            let axis = run(&rt, &mut words, 4)?;
+            let axis = run(&rt, &mut WordCard::new(&mut words), 4)?;
             assert_eq!(rt; axis.flags(), Flags { v, n, z });
             let some = (v && mask & 4 != 0) || (n && mask & 2 != 0) || (z && mask & 1 != 0);
             let taken = some == (mask & 8 != 0);
@@ -150,7 +130,8 @@ fn marked_arithmetic(rt: HostRuntime) -> Result<(), Fail> {
         ),
     ];
     for (marked, (a, b), register, word, flags) in rows {
-        let axis = run(&rt, &mut [0x3002_0003, 0x3003_0004, marked, a, b], 3)?;
+        let mut words = [0x3002_0003, 0x3003_0004, marked, a, b];
+        let axis = run(&rt, &mut WordCard::new(&mut words), 3)?;
         assert_eq!(rt; axis.register(register), word);
         assert_eq!(rt; axis.flags(), flags);
     }
@@ -161,7 +142,7 @@ fn marked_arithmetic(rt: HostRuntime) -> Result<(), Fail> {
 #[test]
 fn lent_words_hold_a_store(rt: HostRuntime) -> Result<(), Fail> {
     let mut words = [0x1001_0007, 0x3101_0003, 0, 0];
-    let _axis = run(&rt, &mut words, 2)?;
+    let _axis = run(&rt, &mut WordCard::new(&mut words), 2)?;
     assert!(rt; words[3] == 7);
     let mut card = WordCard::new(&mut words);
     assert!(rt; card.place(2, 8).is_ok());

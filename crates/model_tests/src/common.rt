@@ -1,0 +1,20 @@
+// What several tests share.
+use card::{AccessFault, Card, Cause, End, Origin};
+use machine::{Machine, Outcome};
+use std::process::Abort;
+use std::test::Fail;
+
+// The end of a transfer that is refused there.
+pub fn fault(cause: Cause, address: u32, layer: u8) -> End {
+    let origin = Origin { address, layer };
+    Err(AccessFault { cause, origin })
+}
+
+// Runs so many instructions on the card, which all have to be done, and answers the machine.
+pub fn run<C: Card>(rt: &impl Abort, card: &mut C, count: u32) -> Result<Machine, Fail> {
+    let mut axis = Machine::power_up(1, card)?;
+    for _ in 0..count {
+        assert!(rt; matches!(axis.instruction(card), Ok(Outcome::Done | Outcome::Ignored)));
+    }
+    Ok(axis)
+}
