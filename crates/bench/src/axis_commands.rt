@@ -52,7 +52,8 @@ impl Task for Run<'_> {
     }
 }
 
-// Up to so many instructions, to the first that halts or is refused: how many were accepted, and the last answer.
+// Up to so many instructions, to the first that halts or is refused: how many were accepted, and the last answer. The count of
+// the turns is the count of the answer.
 fn instructions<C: Card>(
     machine: &mut Machine,
     card: &mut C,

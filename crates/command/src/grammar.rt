@@ -1,4 +1,4 @@
-// What follows the first word of each command.
+// What follows the first word of each command. The heap is passed to those functions alone that may allocate.
 ghost use Rattle.std.specs.Prelude.{◌≡◌, ◌<◌, length, Some, []};
 ghost use Rattle.command.specs.Commands.{parsed, ParsesTo, card_of, store_of, layer_of, slow_of, load_of, power_of};
 ghost use Rattle.command.specs.Commands.{instruction_of, memory_of};

@@ -14,24 +14,24 @@ abbrev pub fault : ℕ → ℕ → ℕ → ℕ → ℕ → ℕ → ℕ → Field
 fault a s i x c o l =
     record { axis = a; stage = s; instruction = i; access = x; cause = c; origin = o; layer = l }
 
--- `told` is how a caller is told the length of the line, or the refusal
+-- `answer` is how a caller is told the length of the line, or the refusal
 abbrev pub Refused : {R : Type 0} → (Result ℕ Refusal → R) → Refusal → List ℕ → R → List ℕ → Type 0
-Refused told refusal before r after = (r ≡ told (Err refusal)) × (after ≡ before)
+Refused answer refusal before r after = (r ≡ answer (Err refusal)) × (after ≡ before)
 
 -- the line with its byte 10, over the front of the buffer; the rest stays
 abbrev pub Written : {R : Type 0} → (Result ℕ Refusal → R) → Fields → List ℕ → R → List ℕ → Type 0
-Written told f before r after =
-    (r ≡ told (Ok (length (line_of f))))
+Written answer f before r after =
+    (r ≡ answer (Ok (length (line_of f))))
     × (46 ≤ length (line_of f))
     × (length (line_of f) ≤ 48)
     × Begins (line_of f) before after
 
 -- the fields are tested before the buffer, which must do for the longest line
-pub record AnsweredAs {R : Type 0} (told : Result ℕ Refusal → R) (f : Fields) (before : List ℕ) (r : R) (after : List ℕ)
+pub record AnsweredAs {R : Type 0} (answer : Result ℕ Refusal → R) (f : Fields) (before : List ℕ) (r : R) (after : List ℕ)
     : Type 0 where
-  pub unfit : (InRange f → ⊥) → Refused told Field before r after
-  pub short : InRange f → length before < 48 → Refused told Buffer before r after
-  pub written : InRange f → 48 ≤ length before → Written told f before r after
+  pub unfit : (InRange f → ⊥) → Refused answer Field before r after
+  pub short : InRange f → length before < 48 → Refused answer Buffer before r after
+  pub written : InRange f → 48 ≤ length before → Written answer f before r after
 
 -- the library's own answer
 abbrev pub LineAnswered : Fields → List ℕ → Result ℕ Refusal → List ℕ → Type 0

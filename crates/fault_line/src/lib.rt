@@ -31,7 +31,8 @@ pub struct Fields {
     pub layer: u32,
 }
 
-// The names that stand in the line, in the order of their numbers, which count from 1.
+// The names that stand in the line, in the order of their numbers, which count from 1: fixed byte strings, by a rule of the
+// project.
 const STAGES: [&[u8]; 4] = [b"fetch", b"displ", b"load", b"store"];
 
 const CAUSES: [&[u8]; 2] = [b"absent", b"fixed"];

@@ -8,10 +8,10 @@ pub(crate) enum Base {
     Hexadecimal = 16,
 }
 
-impl Base {
-    pub(crate) fn radix(self) -> u32
-        ensures { result ≡ radix self }
-    {
-        self as u32
+impl From<Base> for u32 {
+    ghost from_gives = { λ base n. n ≡ radix base };
+
+    fn from(base: Base) -> u32 {
+        base as u32
     }
 }

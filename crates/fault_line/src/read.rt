@@ -24,7 +24,7 @@ impl Base {
         ensures { DigitRead (radix self) character result }
     {
         let d = hexadecimal(character)?;
-        (d < self.radix()).then_some(d)
+        (d < u32::from(self)).then_some(d)
     }
 
     // The number that a text of digits writes.
@@ -34,7 +34,7 @@ impl Base {
     {
         let mut n = 0;
         for character in text {
-            n = n * self.radix() + self.digit(*character)?;
+            n = n * u32::from(self) + self.digit(*character)?;
         }
         Some(n)
     }
@@ -70,6 +70,7 @@ impl Reader<'_> {
         ensures { NameRead names.now self.old.left.now result self.new.left.now }
     {
         self.mark(b" ")?;
+        // not by `position`, whose closure would change the reader
         for (i, name) in names.iter().enumerate() {
             if self.mark(name).is_some() {
                 return Some(i as u32 + 1);

@@ -17,7 +17,7 @@ impl Base {
     fn digits<const N: usize>(self, n: u32) -> [u8; N]
         ensures { result ≡ digits (radix self) N n }
     {
-        let radix = self.radix();
+        let radix = u32::from(self);
         let mut text = [b'0'; N];
         let mut left = n;
         // by index, since a proof can say nothing of an array that `iter_mut().rev()` goes through

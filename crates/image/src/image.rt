@@ -105,7 +105,7 @@ impl<'a> Directory<'a> {
         ensures value { result ≡ words_before self.now.bytes.now n }
         ensures bound { result ≤ 2 ^ 38 }
     {
-        // a loop, since the sum of a chain answers no bound
+        // a loop, since `sum` has to fit a `usize`, and of a chain's items no bound is known
         let mut words = 0;
         for bytes in &self.pairs[..n] {
             words += Pair::from(*bytes).length as usize;

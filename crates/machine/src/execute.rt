@@ -1,5 +1,6 @@
 // One instruction, by the words that it reads: itself, a displacement, the word at an address.
 // Its parts answer a fault as an error, and only the call as a whole records it: so up to there a fault has changed nothing.
+// They are methods of the machine over a card, a form and an instruction; a struct of these would lend the machine once more.
 ghost use Rattle.std.specs.Prelude.{◌≡◌};
 ghost use Rattle.card.specs.Ends.{End, end_of};
 ghost use Rattle.card.specs.declared.transfer.Direction.TheVariants.{Read};

@@ -1,4 +1,4 @@
-// Lines, and what `read` answers.
+// Lines, and what `read` answers, each by its debug text, so that a row stays a line.
 use command::{Bottom, Wrong, read};
 use std::alloc::{AllocError, AllocFailed};
 use std::test::Fail;

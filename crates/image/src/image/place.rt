@@ -28,6 +28,7 @@ impl<'a> Image<'a> {
     fn first_closed<C: Cells>(&self, card: &C) -> Option<u32>
         ensures { Looked (bytes_of self.now) (C.Cells.meaning card.now).map result }
     {
+        // a `for`, since the check finds no proof of a `find_map`
         for n in 0..self.directory.count() {
             if let Some(address) = self.segment_at(n).first_closed(card) {
                 return Some(address);

@@ -10,6 +10,7 @@ impl<'a> Image<'a> {
     pub fn segment(&self, n: usize) -> Option<Segment<'a>>
         ensures { Shown (bytes_of self.now) n result }
     {
+        // not by `then`, of whose closure the proof learns too little
         if n < self.directory.count() {
             Some(self.segment_at(n))
         } else {

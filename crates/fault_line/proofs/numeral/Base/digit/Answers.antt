@@ -16,5 +16,5 @@ pub returns : goal.returns
 returns c =
     let read = c.in_ok-d.ensures in
     let b = (radix_bounds c.args.self).1 in
-    rw (c.then_some.ensures, c.radix.ensures)
+    rw (c.then_some.ensures, c.from.ensures)
     (kept (radix c.args.self) c.args.character c.in_ok-d.d b read.0 read.1 _ refl)
