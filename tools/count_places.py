@@ -74,7 +74,7 @@ def main():
                 found['1 enums of two variants, one of them with a value'].append(f'{name}: {m.group(1)}')
         for m in re.finditer(r'let (?:Some|Ok|Err)\(.*\) = [^;{]* else \{\n\s*return Err\(', text):
             found['1 a `let` that only returns an error'].append(f'{name}: {m.group().split(chr(10))[0]}')
-    lines('1 numbers for refusals and kinds', r'\.number\(\)|\) -> i32|: i32\b.*Refusal')
+    lines('1 numbers for refusals and kinds', r'(?<!words)\.number\(\)|\) -> i32|: i32\b.*Refusal')
     lines('1 an error that is replaced by hand', r'is_err\(\)|Err\(_\) =>|Fault\(cause, origin\) => Ok')
 
     shapes = collections.defaultdict(list)
@@ -109,8 +109,8 @@ def main():
     for (crate, p, q), fns in groups.items():
         if len(fns) >= 3:
             found['5 two parameters that three functions or more take together'].append(f'{crate}: {p}, {q}: {", ".join(sorted(fns))}')
-    lines('6 positions and counts beside a buffer', r'(at|count|position|n): usize, \w+: &|&(mut )?\[\w+\], (at|count|position|n): usize|starts|Vec<usize>')
-    lines('7 enums of steps, and their switches', r'enum (Task|Inspection)\b|match (task|inspection) ')
+    lines('6 positions and counts beside a buffer', r'(at|count|position|n|length|places): usize, \w+: &|&(mut )?\[\w+\], (at|count|position|n|length|places): \w+|starts|Vec<usize>|\bat (=|\+=) ')
+    lines('7 enums of steps, and their switches', r'enum (Task|Inspection)\b|match (task|inspection) |\bfn\(|dyn ')
     proofs = files(commit, r'/proofs/.*\.antt$')
     for name, text in proofs.items():
         found['8 proof files'].append(name)
