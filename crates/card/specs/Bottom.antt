@@ -24,6 +24,10 @@ addressed count a = nat_lt a count && nat_lt a 65536
 abbrev pub has : List ℕ → ℕ → Bool
 has ws a = addressed (length ws) a
 
+-- The word that so many words have at the address a.
+abbrev pub word_of : List ℕ → ℕ → Option ℕ
+word_of ws a = cond (has ws a) (Some (slice_index ws a)) None
+
 abbrev pub open_cells : List ℕ → Map
 open_cells ws a = cond (has ws a) (Open (slice_index ws a)) (Absent (here a))
 

@@ -5,7 +5,7 @@ ghost use Rattle.std.specs.Prelude.{◌≡◌, ◌≤◌, ℕ, None};
 ghost use Rattle.std.proofs.Common.{zero-le};
 ghost use Rattle.card.specs.Ends.{Map};
 ghost use Rattle.card.specs.Meaning.{Placed, Begun, Answered, idle};
-ghost use Rattle.card.specs.Bottom.{addressed, open_cells, fixed_cells, bottom, After, Keeps, Written};
+ghost use Rattle.card.specs.Bottom.{addressed, word_of, open_cells, fixed_cells, bottom, After, Keeps, Written};
 
 use super::card::{Card, Cells};
 use super::cell::{Cell, Origin};
@@ -17,6 +17,17 @@ fn has_word(count: usize, address: u32) -> bool
     ensures { result ≡ addressed count address }
 {
     (address as usize) < count && address < 65_536
+}
+
+// The word that a card over these words has at the address.
+fn word_at(words: &[u32], address: u32) -> Option<u32>
+    ensures { result ≡ word_of words.now address }
+{
+    if has_word(words.len(), address) {
+        Some(words[address as usize])
+    } else {
+        None
+    }
 }
 
 // Lent words as the cells of a card.
@@ -43,10 +54,9 @@ impl<'a> Memory for &'a mut [u32] {
     ghost Rewritten = { Written };
 
     fn cell(&self, address: u32) -> Cell {
-        if has_word(self.len(), address) {
-            Cell::Open(self[address as usize])
-        } else {
-            Cell::Absent(Origin { address, layer: 0 })
+        match word_at(self, address) {
+            Some(word) => Cell::Open(word),
+            None => Cell::Absent(Origin { address, layer: 0 }),
         }
     }
 
@@ -66,10 +76,9 @@ impl<'a> Memory for &'a [u32] {
 
     fn cell(&self, address: u32) -> Cell {
         let origin = Origin { address, layer: 0 };
-        if has_word(self.len(), address) {
-            Cell::Fixed(self[address as usize], origin)
-        } else {
-            Cell::Absent(origin)
+        match word_at(self, address) {
+            Some(word) => Cell::Fixed(word, origin),
+            None => Cell::Absent(origin),
         }
     }
 
@@ -102,7 +111,7 @@ impl<M> BottomCard<M> {
     }
 }
 
-// Each card is made by a function of its own: an array or a `Vec` is lent as a slice only where the parameter is a slice.
+// Each card is made by a function of its own, since an array or a `Vec` is lent as a slice only where the parameter is a slice.
 impl<'a> BottomCard<&'a mut [u32]> {
     // A card over the words, without a transfer. Words past the first 65,536 have no address.
     pub fn new(words: &'a mut [u32]) -> WordCard<'a>

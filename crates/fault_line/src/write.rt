@@ -43,6 +43,7 @@ fn put(parts: &[&[u8]], line: &mut [u8]) -> usize
     ensures end { result ≡ length (joined parts.now) }
     ensures puts { Begins (joined parts.now) line.old line.new }
 {
+    // the position is the answer too
     let mut at = 0;
     for part in parts {
         let end = at + part.len();
