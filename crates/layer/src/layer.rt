@@ -93,6 +93,7 @@ impl<C: Card> Card for Layer<C> {
 
 impl<C: Card> Layer<C> {
     // A layer over a card, whose transfer it cancels.
+    #[tactic(auto, using(crate::proofs::Lawful::lawful))]
     pub fn new(kind: Kind, mut below: C) -> Layer<C>
         ensures laws { Laws }
         ensures kind { result.kind ≡ kind }

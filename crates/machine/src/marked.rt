@@ -3,6 +3,7 @@ ghost use Rattle.std.specs.Prelude.{◌≡◌, map};
 ghost use Rattle.machine.specs.Marked.{Marked, rows};
 
 // The words of the table, whose states before and after are in the contract.
+#[tactic(auto, unfolding(isa::specs::Opcodes::class_of))]
 pub fn marked_words() -> [u32; 8]
     ensures words { result ≡ map (λ m. m.word) rows }
     ensures marked { Marked }

@@ -83,7 +83,7 @@ fn two_pairs(rt: HostRuntime) {
     assert_eq!(rt; pairs([2, 2], [4, 2]), Some(Refusal::Length));
 }
 
-// As many segments of one word, with room for 65 pairs.
+// As many segments of one word, with room for 65 pairs; by the position of each byte, as the format counts them.
 fn many(count: u8) -> [u8; 784] {
     let mut bytes = [0; 784];
     bytes[3] = count;
