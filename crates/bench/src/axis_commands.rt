@@ -1,5 +1,5 @@
 // The commands of an instruction machine. What they print is the bench's format, so it stands here and in no `Display` of the
-// library's types.
+// library's types. The runtime is passed along, as everywhere.
 use super::stack::Task;
 use card::Card;
 use fault_line::{Fields, write_line};

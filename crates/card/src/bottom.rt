@@ -23,11 +23,7 @@ fn has_word(count: usize, address: u32) -> bool
 fn word_at(words: &[u32], address: u32) -> Option<u32>
     ensures { result ≡ word_of words.now address }
 {
-    if has_word(words.len(), address) {
-        Some(words[address as usize])
-    } else {
-        None
-    }
+    has_word(words.len(), address).then(|| words[address as usize])
 }
 
 // Lent words as the cells of a card.
@@ -111,7 +107,8 @@ impl<M> BottomCard<M> {
     }
 }
 
-// Each card is made by a function of its own, since an array or a `Vec` is lent as a slice only where the parameter is a slice.
+// Each card is made by a function of its own: an array or a `Vec` is lent as a slice only where the parameter is a slice, and what a
+// caller knows afterwards of words lent for writing is more than of words lent for reading.
 impl<'a> BottomCard<&'a mut [u32]> {
     // A card over the words, without a transfer. Words past the first 65,536 have no address.
     pub fn new(words: &'a mut [u32]) -> WordCard<'a>

@@ -21,7 +21,7 @@ mod number;
 mod words;
 
 // The card at the bottom of a stack.
-#[derive(Clone, Copy, Debug)]
+#[derive(Clone, Copy, PartialEq, Eq, Debug)]
 pub enum Bottom {
     Word,
     Boot,
@@ -49,7 +49,7 @@ pub enum Command {
     Words(u32, Vec<u32>),
     // a layer on top of the card
     Layer(Kind),
-    // an image, by its file's name
+    // an image, by its file's name, as the bytes of the line
     Load(Vec<u8>),
     // the instruction machine on this axis
     PowerInstruction(u32),
@@ -69,7 +69,7 @@ pub enum Command {
 }
 
 // What is wrong with a line.
-#[derive(Clone, Copy, Debug)]
+#[derive(Clone, Copy, PartialEq, Eq, Debug)]
 pub enum Wrong {
     BadByte,
     UnknownCommand,

@@ -7,7 +7,8 @@ ghost use Rattle.fault_line.specs.Reading.{DigitRead, FieldRead, MarkRead, NameR
 use super::numeral::Base;
 use super::{CAUSES, Fields, STAGES};
 
-// The number that a character is the hexadecimal digit of.
+// The number that a character is the hexadecimal digit of. By hand, as what follows, since the library's digits may be capitals and
+// its numbers have a sign.
 fn hexadecimal(character: u8) -> Option<u32>
     ensures { DigitRead 16 character result }
 {
@@ -79,6 +80,7 @@ impl Reader<'_> {
         None
     }
 
+    // The fields of a line, one function each: what they differ in is what the line says.
     fn axis(&mut self) -> Option<u32>
         ensures { FieldRead (λ n. n < 10) axis_text self.old.left.now result self.new.left.now }
     {

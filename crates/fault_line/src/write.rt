@@ -13,7 +13,7 @@ use refusal::Refusal;
 const LONGEST: usize = 48;
 
 impl Base {
-    // The last digits of a number, as many as the array has places.
+    // The last digits of a number, as many as the array has places. No `write!`, since the line is put together of byte strings.
     fn digits<const N: usize>(self, n: u32) -> [u8; N]
         ensures { result ≡ digits (radix self) N n }
     {

@@ -6,7 +6,7 @@ ghost use Rattle.fault_line.specs.Answer.{Answered, fault};
 use fault_line::{Fields, write_line};
 
 // Writes the line of a fault into a buffer. The answer is the line's length, or minus the number of the refusal: a field is
-// out of its range, or the buffer does not do for every line: a number, since C has no `Result`.
+// out of its range, or the buffer does not do for every line. C has no `Result`, so it is a number.
 #[unsafe(no_mangle)]
 pub extern "C" fn dp32_fault_line(
     axis: u32,

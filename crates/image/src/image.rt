@@ -75,6 +75,7 @@ impl<'a> Directory<'a> {
         self.pairs.len()
     }
 
+    // that there is a pair n is a fact about the argument, so no type has it
     fn pair(&self, n: usize) -> Pair
         requires { n < count_of self.now.bytes.now }
         ensures offset { result.offset ≡ offset_of self.now.bytes.now n }

@@ -2,6 +2,6 @@
 #[derive(Clone, Copy)]
 pub struct Segment<'a> {
     pub offset: u32,
-    // part of the image's own bytes, four for each word; a public field, which stays a slice of bytes
+    // part of the image's own bytes, four for each word; a slice of arrays would ask more of whoever makes a segment
     pub words: &'a [u8],
 }

@@ -29,7 +29,7 @@ impl Kind {
         ensures { result ≡ guards self address }
     {
         match self {
-            Kind::Guard(first, last) => first <= address && address <= last,
+            Kind::Guard(first, last) => (first..=last).contains(&address),
             Kind::Offset(_) | Kind::Slow(_) => false,
         }
     }

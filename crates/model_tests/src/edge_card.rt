@@ -1,6 +1,6 @@
 // A card with a cell at every address: the eight first and the eight last addresses are open, all others hold a fixed
-// zero. Its transfers wait by their address, up to three times. Its poll is a layer's: what both share stands in `after_wait` and
-// `finish`, and a card over any cells that both could be would be longer.
+// zero. Its transfers wait by their address, up to three times. Its begin, poll and cancel are nearly a layer's. What these share
+// stands in `after_wait` and `finish`; one type for both, over cells and waits, would be longer than the few lines.
 ghost use Rattle.std.specs.Prelude.{◌≡◌, ◌≤◌};
 ghost use Rattle.model_tests.specs.Edge.{edge_meaning, patient};
 

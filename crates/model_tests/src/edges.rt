@@ -1,7 +1,7 @@
 // Addresses across the end of memory, with waits.
 use super::edge_card::EdgeCard;
-use card::{Card, Cell, Cells, Direction, Request};
-use machine::{Machine, Outcome};
+use card::{Card, Cause, Cell, Cells, Direction, Origin, Request};
+use machine::{Axis, Fault, Machine, Outcome, Stage};
 use refusal::Refusal;
 use std::test::Fail;
 
@@ -14,9 +14,9 @@ fn branch_at_the_last_address(rt: HostRuntime) -> Result<(), Fail> {
     );
     let mut axis = Machine::power_up(1, &mut card)?;
     assert_eq!(rt; axis.instruction(&mut card), Ok(Outcome::Done));
-    assert!(rt; axis.pc() == 0xffff_ffff);
+    assert_eq!(rt; axis.pc(), 0xffff_ffff);
     assert_eq!(rt; axis.instruction(&mut card), Ok(Outcome::Done));
-    assert!(rt; axis.pc() == 0x5100_0100);
+    assert_eq!(rt; axis.pc(), 0x5100_0100);
     Ok(())
 }
 
@@ -30,19 +30,28 @@ fn load_and_store_at_the_last_addresses(rt: HostRuntime) -> Result<(), Fail> {
     // at 0xfffffffe the store's displacement is the word at 0xffffffff, a fixed cell's address
     assert_eq!(rt; axis.instruction(&mut card), Ok(Outcome::Done));
     assert_eq!(rt; axis.instruction(&mut card), Ok(Outcome::Halted));
-    assert!(rt; axis.pc() == 0xffff_fffe);
-    let fault = axis.fault().ok_or("no fault")?;
-    assert!(rt; u32::from(fault.stage) == 4 && u32::from(fault.cause) == 2);
-    assert!(rt; fault.instruction == 0xffff_fffe && fault.access == 0x2002_0000);
+    assert_eq!(rt; axis.pc(), 0xffff_fffe);
+    let fault = Fault {
+        axis: Axis::Two,
+        stage: Stage::Store,
+        instruction: 0xffff_fffe,
+        access: 0x2002_0000,
+        cause: Cause::Fixed,
+        origin: Origin {
+            address: 0x2002_0000,
+            layer: 0,
+        },
+    };
+    assert_eq!(rt; axis.fault(), Some(fault));
     // the load at 0xffffffff has its displacement at 0
     axis.reset();
     card.place(0, 0x5100_00ff)?;
     assert_eq!(rt; axis.instruction(&mut card), Ok(Outcome::Done));
-    assert!(rt; axis.pc() == 0xffff_ffff);
+    assert_eq!(rt; axis.pc(), 0xffff_ffff);
     card.place(0, 1)?;
     assert_eq!(rt; axis.instruction(&mut card), Ok(Outcome::Done));
-    assert!(rt; axis.pc() == 1);
-    assert!(rt; axis.register(2) == 0x5100_00ff);
+    assert_eq!(rt; axis.pc(), 1);
+    assert_eq!(rt; axis.register(2), 0x5100_00ff);
     Ok(())
 }
 
@@ -57,13 +66,13 @@ fn foreign_transfer(rt: HostRuntime) -> Result<(), Fail> {
     };
     assert_eq!(rt; card.begin(request), Ok(1));
     assert_eq!(rt; axis.instruction(&mut card), Err(Refusal::Transfer));
-    assert!(rt; axis.pc() == 0);
+    assert_eq!(rt; axis.pc(), 0);
     assert_eq!(rt; card.begin(request), Err(Refusal::Transfer));
     assert!(rt; matches!(Machine::power_up(4, &mut card), Err(Refusal::Axis)));
     assert_eq!(rt; card.begin(request), Err(Refusal::Transfer));
     assert!(rt; Machine::power_up(1, &mut card).is_ok());
     assert_eq!(rt; axis.instruction(&mut card), Ok(Outcome::Ignored));
-    assert!(rt; axis.pc() == 1);
+    assert_eq!(rt; axis.pc(), 1);
     Ok(())
 }
 
@@ -74,7 +83,7 @@ fn past_the_last_address(rt: HostRuntime) -> Result<(), Fail> {
     let mut card = EdgeCard::new(first, [0, 0, 0, 0, 0, 0, 0x2103_0000, 0x0000_0005]);
     let mut axis = Machine::power_up(1, &mut card)?;
     assert_eq!(rt; axis.instruction(&mut card), Ok(Outcome::Done));
-    assert!(rt; axis.pc() == 0xffff_fffe);
+    assert_eq!(rt; axis.pc(), 0xffff_fffe);
     card.place(5, 9)?;
     assert_eq!(rt; axis.instruction(&mut card), Ok(Outcome::Done));
     assert!(rt; axis.pc() == 0 && matches!(card.look(5), Cell::Open(0)));

@@ -164,6 +164,7 @@ fn slow_layers_change_nothing_but_waits(rt: HostRuntime) -> Result<(), Fail> {
     }
     assert_eq!(rt; plain.flags(), slowed.flags());
     assert_eq!(rt; plain.pc(), slowed.pc());
+    // but for their origins the cells are the same
     for address in 0..12u32 {
         match (bare.look(address), stack.look(address)) {
             (Cell::Open(a), Cell::Open(b)) => assert_eq!(rt; a, b),
