@@ -70,6 +70,11 @@ fn instructions<C: Card>(
     (count, Ok(last))
 }
 
+pub fn reset(rt: &HostRuntime, machine: &mut Machine) -> io::Result<()> {
+    machine.reset();
+    println!(rt; "reset ok")
+}
+
 // The registers that are not zero.
 pub fn registers(rt: &HostRuntime, machine: &Machine) -> io::Result<()> {
     let count = (0..=255u8)

@@ -3,7 +3,9 @@ use super::axis_commands::{self, PowerUp, Run};
 use super::cells::{Dump, Load, Look, Place};
 use super::memory::Memory;
 use super::mistake::Mistake;
-use command::Command;
+use super::stack::Task;
+use command::{Bottom, Command};
+use layer::Kind;
 use machine::Machine;
 use std::{fs, io};
 
@@ -54,56 +56,77 @@ impl<'a> Scenario<'a> {
             return Ok(());
         };
         match command {
-            Command::Card(bottom, count) => {
-                self.setup = Some(Setup {
-                    memory: Memory::new(rt.alloc(), bottom, count)?,
-                    axis: None,
-                });
-                println!(rt; "card ok")?;
-            }
-            Command::Words(from, list) => {
-                let memory = self.setup()?.unpowered(Mistake::WordsAfterPower)?;
-                memory.store(from, &list)?;
-                println!(rt; "words ok")?;
-            }
-            Command::Layer(kind) => {
-                let memory = self.setup()?.unpowered(Mistake::LayerAfterPower)?;
-                memory.add(kind)?;
-                println!(rt; "layer ok")?;
-            }
-            Command::Load(name) => {
-                let setup = self.setup()?;
-                let bytes = read_file(rt, &name).ok_or(Mistake::Unreadable)?;
-                setup.memory.perform(rt, Load(bytes))?;
-            }
-            Command::PowerInstruction(axis) => {
-                let setup = self.setup()?;
-                if let Some(machine) = setup.memory.perform(rt, PowerUp { axis })? {
-                    setup.axis = Some(machine);
-                }
-            }
-            Command::Look(address) => self.setup()?.memory.perform(rt, Look(address))?,
-            Command::Memory(from, count) => {
-                self.setup()?.memory.perform(rt, Dump { from, count })?;
-            }
-            Command::Place(address, word) => {
-                self.setup()?.memory.perform(rt, Place { address, word })?;
-            }
-            Command::Instruction(count) => {
-                let setup = self.setup()?;
-                let machine = setup.axis.as_mut().ok_or(Mistake::NoAxis)?;
-                setup.memory.perform(rt, Run { machine, count })?;
-            }
-            Command::Reset => {
-                self.axis()?.reset();
-                println!(rt; "reset ok")?;
-            }
+            Command::Card(bottom, count) => self.new_card(bottom, count)?,
+            Command::Words(from, list) => self.store(from, &list)?,
+            Command::Layer(kind) => self.add_layer(kind)?,
+            Command::Load(name) => self.load(&name)?,
+            Command::PowerInstruction(axis) => self.power_up(axis)?,
+            Command::Instruction(count) => self.run(count)?,
+            Command::Look(address) => self.perform(Look(address))?,
+            Command::Memory(from, count) => self.perform(Dump { from, count })?,
+            Command::Place(address, word) => self.perform(Place { address, word })?,
+            Command::Reset => axis_commands::reset(rt, self.axis()?)?,
             Command::Registers => axis_commands::registers(rt, self.axis()?)?,
             Command::Flags => axis_commands::flags(rt, self.axis()?)?,
             Command::Pc => axis_commands::pc(rt, self.axis()?)?,
             Command::Fault => axis_commands::fault(rt, self.axis()?)?,
         }
         Ok(())
+    }
+
+    // A card in place of the one before, and no axis.
+    fn new_card(&mut self, bottom: Bottom, count: u32) -> Result<(), Mistake> {
+        self.setup = Some(Setup {
+            memory: Memory::new(self.rt.alloc(), bottom, count)?,
+            axis: None,
+        });
+        println!(self.rt; "card ok")?;
+        Ok(())
+    }
+
+    fn store(&mut self, from: u32, list: &[u32]) -> Result<(), Mistake> {
+        let memory = self.setup()?.unpowered(Mistake::WordsAfterPower)?;
+        memory.store(from, list)?;
+        println!(self.rt; "words ok")?;
+        Ok(())
+    }
+
+    fn add_layer(&mut self, kind: Kind) -> Result<(), Mistake> {
+        let memory = self.setup()?.unpowered(Mistake::LayerAfterPower)?;
+        memory.add(kind)?;
+        println!(self.rt; "layer ok")?;
+        Ok(())
+    }
+
+    fn load(&mut self, name: &[u8]) -> Result<(), Mistake> {
+        let rt = self.rt;
+        let setup = self.setup()?;
+        let bytes = read_file(rt, name).ok_or(Mistake::Unreadable)?;
+        setup.memory.perform(rt, Load(bytes))?;
+        Ok(())
+    }
+
+    // A refused power-up leaves the axis that there is.
+    fn power_up(&mut self, axis: u32) -> Result<(), Mistake> {
+        let rt = self.rt;
+        let setup = self.setup()?;
+        if let Some(machine) = setup.memory.perform(rt, PowerUp { axis })? {
+            setup.axis = Some(machine);
+        }
+        Ok(())
+    }
+
+    fn run(&mut self, count: u32) -> Result<(), Mistake> {
+        let rt = self.rt;
+        let setup = self.setup()?;
+        let machine = setup.axis.as_mut().ok_or(Mistake::NoAxis)?;
+        setup.memory.perform(rt, Run { machine, count })?;
+        Ok(())
+    }
+
+    fn perform<T: Task>(&mut self, task: T) -> Result<T::Answer, Mistake> {
+        let rt = self.rt;
+        Ok(self.setup()?.memory.perform(rt, task)?)
     }
 
     fn setup(&mut self) -> Result<&mut Setup, Mistake> {
