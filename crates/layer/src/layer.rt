@@ -59,6 +59,8 @@ impl<C: Card> Cells for Layer<C> {
     }
 }
 
+// Begin, poll and cancel are nearly those of any card that keeps a transfer. What such cards share is `after_wait` and `finish`; one
+// type for all would be longer than the few lines.
 impl<C: Card> Card for Layer<C> {
     fn begin(&mut self, request: Request) -> Result<u16, Refusal>
         ensures begun { Begun
