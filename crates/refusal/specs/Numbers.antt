@@ -3,12 +3,15 @@
 use Rattle.std.specs.Prelude.{ℕ, List}
 use Rattle.std.specs.Fmt.{decimal}
 use Rattle.refusal.specs.declared.Refusal.{Refusal}
-use Rattle.refusal.specs.declared.Refusal.TheVariants.{Axis, Halted, Transfer, Length, Count, Pair, NotOpen, Buffer, Field}
+use Rattle.refusal.specs.declared.Refusal.TheVariants.{Axis, Halted, Transfer, NoBoundary, Misfit, KeyOut, Length, Count, Pair, NotOpen, Buffer, Field}
 
 abbrev pub number_of : Refusal → ℕ
 number_of Axis = 30
 number_of Halted = 31
 number_of Transfer = 32
+number_of NoBoundary = 34
+number_of Misfit = 35
+number_of KeyOut = 36
 number_of Length = 41
 number_of Count = 42
 number_of Pair = 43

@@ -10,10 +10,16 @@ use std::fmt;
 pub enum Refusal {
     // power-up of an axis other than 1, 2 or 3
     Axis = 30,
-    // an instruction of a machine that has halted
+    // an instruction or a clock of a machine that has halted
     Halted = 31,
     // a transfer in being where one begins, or none where one is polled
     Transfer = 32,
+    // a draw of the key at neither a boundary nor a halt
+    NoBoundary = 34,
+    // a key that does not fit
+    Misfit = 35,
+    // a call of a processor whose key is out
+    KeyOut = 36,
     // an image that is too short, or not as long as its directory says
     Length = 41,
     // an image of more than 64 segments
