@@ -21,6 +21,14 @@ impl Registers {
         self.words[usize::from(register)]
     }
 
+    // A register as it is once the word is stored in the register `into`.
+    pub fn get_after_store(&self, into: u8, word: u32, register: u8) -> u32
+        ensures { result ≡ read (put self.now.words into word) register }
+    {
+        let held = self.get(register);
+        if into == register { word } else { held }
+    }
+
     // Stores a word in a register, and leaves all others.
     pub fn store(&mut self, register: u8, word: u32)
         ensures { self.new.words ≡ put self.old.words register word }
