@@ -1,0 +1,14 @@
+mod Refusing
+mod Invariant
+mod Gives
+mod Steps
+mod Polling
+mod Ending
+mod Fetching
+mod Displacing
+mod Decoding
+mod Executing
+mod Resting
+mod Calling
+mod Theorem
+mod Refuted

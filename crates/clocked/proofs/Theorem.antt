@@ -1,0 +1,186 @@
+-- The promise, of the processor and the card that power-up hands back: the invariant along every run, and the clocks left.
+use Rattle.std.proofs.Common.{◌≡◌, ℕ, ◌+◌, ◌*◌, ◌≤◌, Bool, true, false, ◌||◌, List, [], ◌∷◌, length, is_some, None, Ok, Err, Result, sym, refl, ap, ◌∙◌, subst, arith}
+use Rattle.refusal.specs.declared.Refusal.{Refusal}
+use Rattle.card.specs.Meaning.{Meaning, idle}
+use Rattle.machine.specs.declared.axis.Axis.{Axis}
+use Rattle.machine.specs.State.{State, powered_up}
+use Rattle.clocked.specs.declared.control.Control.{Control}
+use Rattle.clocked.specs.declared.control.Control.TheVariants.{Fetch0, Fetch1, Fetch2, Decode, DispFetch0, DispFetch1, DispFetch2, Execute0, Execute1, Execute2}
+use Rattle.clocked.specs.declared.processor.Processor.{Processor}
+use Rattle.clocked.specs.declared.tick.Answer.{Answer}
+use Rattle.clocked.specs.declared.tick.Answer.TheVariants.{On, Waiting, Ended}
+use Rattle.clocked.specs.Calls.{PoweredAs, waits_left}
+use Rattle.clocked.specs.Refusals.{clock_refusal}
+use Rattle.clocked.specs.Comparison.{compared, compared_by, clocks_since, waits_since, key_out, out_after}
+use Rattle.clocked.specs.Processor.{fresh}
+use Rattle.clocked.specs.Promise.{Promise, Promised, Kept, Running, AreClocks, ends, ends_by, some_ends}
+use Rattle.clocked.specs.Runs.{Config, Event, clocked, reset, drawn, set, given, Entry, events, Run, none, more, Made, MadeBy}
+use Rattle.clocked.proofs.Invariant.{At, Inv, clocks_left, μ}
+use Rattle.clocked.proofs.Gives.{FallsBy}
+use Rattle.clocked.proofs.Calling.{follows}
+use Rattle.clocked.proofs.Resting.{whereabouts, same_fault, agreeing, running_refusal, due}
+use Rattle.clocked.proofs.Steps.{never_both, some_none}
+
+-- The run before its newest entry, and that entry.
+abbrev Before : (M : Entry → Type 0) (start : Config) → List Entry → Type 0
+Before M start [] = Unit {0}
+Before M start (e ∷ es) = Run M start es e.before × M e
+
+before : {M : Entry → Type 0} {start : Config} {es : List Entry} {c : Config} → Run M start es c → Before M start es
+before none = tt
+before (more e es r m) = (r, m)
+
+-- The invariant holds along a run, compared with the machine that began in the state s with n clocks and w waits.
+module _ (start : Config) (s : State) (key : start.processor.locked ≡ false) (at : Inv s 0 0 start.processor start.card) where
+  pub record Along (es : List Entry) (c : Config) : Type 0 where
+    pub inv : Inv (compared s (events es)) (clocks_since (events es)) (waits_since es) c.processor c.card
+    pub lock : c.processor.locked ≡ key_out (events es)
+
+  along : {es : List Entry} {c : Config} → Run Made start es c → Along es c
+  along none = record { inv = at; lock = key }
+  along (more e es r m) =
+      let h = along r in
+      let f = follows _ _ _ e.before.processor e.before.card h.inv e.event e.after m in
+      record { inv = f.inv; lock = f.locked ∙ ap (out_after e.event) h.lock }
+
+  kept : (e : Entry) (es : List Entry) → Run Made start es e.before → Made e → Kept s es e
+  kept e es r m =
+      let h = along r in
+      let f = follows (compared s (events es)) (clocks_since (events es)) (waits_since es) e.before.processor e.before.card h.inv e.event e.after m in
+      let place = whereabouts e.after.processor.control (compared s (events (e ∷ es))) (clocks_since (events (e ∷ es))) (waits_since (e ∷ es)) e.after.processor e.after.card f.inv in
+      record {
+        agrees = agreeing (compared s (events (e ∷ es))) (clocks_since (events (e ∷ es))) (waits_since (e ∷ es)) e.after.processor e.after.card place;
+        answers = f.answers;
+        halted = ap is_some (sym (same_fault (compared s (events (e ∷ es))) (clocks_since (events (e ∷ es))) (waits_since (e ∷ es)) e.after.processor e.after.card place));
+        row = f.row;
+        took = f.took;
+        refused = f.refused;
+        unchanged = f.unchanged;
+        stays = f.stays;
+        locked = f.locked ∙ ap (out_after e.event) h.lock;
+      }
+
+-- Of a running axis a clock is accepted.
+accepts : (A : State) (n w : ℕ) (p : Processor) (c : Meaning) → Inv A n w p c → p.fault ≡ None → p.locked ≡ false → clock_refusal p c ≡ None
+accepts A n w p c at unhalted unlocked = running_refusal p c unhalted unlocked ∙ due p.control A n w p c at
+
+-- A clock that does not end the instruction leaves the comparison machine, and one clock less.
+goes_on : (x : Answer) (u v : ℕ) (A : State) → ends_by x ≡ false → FallsBy x u v → (v + 1 ≤ u) × (compared_by x A ≡ A)
+goes_on On u v A quiet h = (h, refl)
+goes_on Waiting u v A quiet h = (h, refl)
+goes_on (Ended o) u v A quiet h = elim (never_both true quiet refl) [ ]
+
+neither : (a b : Bool) → (a || b) ≡ false → (a ≡ false) × (b ≡ false)
+neither false b e = (refl, e)
+neither true b e = elim (never_both true e refl) [ ]
+
+most : (k : Control) (A : State) (n w : ℕ) (p : Processor) (m : Meaning) → At k A n w p m →
+    clocks_left k (waits_left m.transfer) m.patience ≤ 10 + 3 * m.patience
+most Fetch0 A n w p m h = omega arith
+most Fetch1 A n w p m h = omega arith
+most Fetch2 A n w p m h = omega (arith, h.0.few)
+most (Decode i) A n w p m h = omega arith
+most (DispFetch0 i) A n w p m h = omega arith
+most (DispFetch1 i) A n w p m h = omega arith
+most (DispFetch2 i) A n w p m h = omega (arith, h.0.few)
+most (Execute0 i d) A n w p m h = omega arith
+most (Execute1 a) A n w p m h = omega arith
+most (Execute2 a) A n w p m h = omega (arith, h.0.few)
+
+least : (k : Control) (w x : ℕ) → 1 ≤ clocks_left k w x
+least Fetch0 w x = omega arith
+least Fetch1 w x = omega arith
+least Fetch2 w x = omega arith
+least (Decode i) w x = omega arith
+least (DispFetch0 i) w x = omega arith
+least (DispFetch1 i) w x = omega arith
+least (DispFetch2 i) w x = omega arith
+least (Execute0 i d) w x = omega arith
+least (Execute1 a) w x = omega arith
+least (Execute2 a) w x = omega arith
+
+-- So many clocks from the configuration c on, none of which ended an instruction.
+pub record Going (c : Config) (count : ℕ) (d : Config) : Type 0 where
+  pub state : State
+  pub clocks : ℕ
+  pub waits : ℕ
+  pub inv : Inv state clocks waits d.processor d.card
+  pub running : Running d
+  pub less : μ d.processor d.card + count ≤ μ c.processor c.card
+
+one_more : (c b a : Config) (count : ℕ) (e : Event) (rest : List Event) → Going c count b → MadeBy e b a → AreClocks (e ∷ rest) → ends e ≡ false →
+    Going c (count + 1) a
+one_more c b a count (clocked (Ok t)) rest g m clocks quiet =
+    let f = follows g.state g.clocks g.waits b.processor b.card g.inv (clocked (Ok t)) a m in
+    let on = goes_on t.answer _ _ g.state quiet f.falls in
+    let falls = on.0 in
+    let less = g.less in
+    record {
+      state = compared_by t.answer g.state;
+      clocks = _;
+      waits = _;
+      inv = f.inv;
+      running = record {
+        unhalted = sym (same_fault _ _ _ a.processor a.card (whereabouts a.processor.control _ _ _ a.processor a.card f.inv))
+            ∙ ap (λ (s : State). s.fault) on.1
+            ∙ same_fault _ _ _ b.processor b.card (whereabouts b.processor.control _ _ _ b.processor b.card g.inv)
+            ∙ g.running.unhalted;
+        unlocked = f.locked ∙ g.running.unlocked;
+      };
+      less = omega (arith, falls, less);
+    }
+one_more c b a count (clocked (Err e)) rest g m clocks quiet =
+    let f = follows g.state g.clocks g.waits b.processor b.card g.inv (clocked (Err e)) a m in
+    elim (some_none e (f.refused ∙ accepts _ _ _ b.processor b.card g.inv g.running.unhalted g.running.unlocked)) [ ]
+one_more c b a count (reset r) rest g m clocks quiet = elim clocks [ ]
+one_more c b a count (drawn r) rest g m clocks quiet = elim clocks [ ]
+one_more c b a count (set k n w r) rest g m clocks quiet = elim clocks [ ]
+one_more c b a count (given k r) rest g m clocks quiet = elim clocks [ ]
+
+tail_clocks : (e : Event) (es : List Event) → AreClocks (e ∷ es) → AreClocks es
+tail_clocks (clocked r) es h = h
+tail_clocks (reset r) es h = elim h [ ]
+tail_clocks (drawn r) es h = elim h [ ]
+tail_clocks (set k n w r) es h = elim h [ ]
+tail_clocks (given k r) es h = elim h [ ]
+
+module _ (c : Config) (A : State) (n w : ℕ) (at : Inv A n w c.processor c.card) (runs : Running c) where
+  going : {fs : List Entry} {d : Config} → Run Made c fs d → AreClocks (events fs) → some_ends (events fs) ≡ false → Going c (length fs) d
+  going none clocks quiet = record { state = A; clocks = n; waits = w; inv = at; running = runs; less = omega arith }
+  going (more e es r m) clocks quiet =
+      let both = neither (ends e.event) (some_ends (events es)) quiet in
+      let g = going r (tail_clocks e.event (events es) clocks) both.1 in
+      subst (λ (x : ℕ). Going c x e.after) (omega arith)
+      (one_more c e.before e.after (length es) e.event (events es) g m clocks both.0)
+
+  progress : (d : Config) (fs : List Entry) → Run Made c fs d → AreClocks (events fs) → length fs ≡ 10 + 3 * c.card.patience →
+      some_ends (events fs) ≡ true
+  progress d fs r clocks long = by_answer (some_ends (events fs)) refl
+    where
+      by_answer : (b : Bool) → some_ends (events fs) ≡ b → some_ends (events fs) ≡ true
+      by_answer true is = is
+      by_answer false is =
+          let g = going r clocks is in
+          let less = g.less in
+          let low = least d.processor.control (waits_left d.card.transfer) d.card.patience in
+          let high = most c.processor.control A n w c.processor c.card at in
+          let never : ⊥ = omega arith in elim never [ ]
+
+start_at : (a : Axis) (c : Meaning) → Inv (powered_up a c.map) 0 0 (fresh a) (idle c)
+start_at a c = record { agrees = refl; idle = refl; clocks = refl; waits = refl; settled = λ l. refl }
+
+holds : (a : Axis) (c : Meaning) → Promise Made (powered_up a c.map) (record { processor = fresh a; card = idle c })
+holds a c =
+    let start : Config = record { processor = fresh a; card = idle c } in
+    let first : State = powered_up a c.map in
+    record {
+      starts = record { boundary = refl; running = record { unhalted = refl; unlocked = refl }; agrees = refl };
+      keeps = λ e es r. kept start first refl (start_at a c) e es (before r).0 (before r).1;
+      progress = λ b es r runs d fs. progress b _ _ _ (along start first refl (start_at a c) r).inv runs d fs;
+    }
+
+pub promised : (x : Result Axis Refusal) (c : Meaning) (r : Result Processor Refusal) (d : Meaning) → PoweredAs x c r d → Promised x c r d
+promised (Ok a) c r d h =
+    subst (λ (y : Result Processor Refusal). Promised (Ok a) c y d) (sym h.0)
+    (subst (λ (y : Meaning). Promised (Ok a) c (Ok (fresh a)) y) (sym h.1) (holds a c))
+promised (Err e) c r d h = tt

@@ -1,0 +1,140 @@
+-- The comparison machine, and what else is told of a run by its calls: the clocks and waits of the instruction under way,
+-- and whether the key is out.
+-- A reader must believe: the comparison machine is fed calls with their arguments and answers, and nothing else. It does
+-- one instruction at each clock that ends one, sets PC to 0 and ends its fault at an accepted reset, and stores a word at
+-- an accepted set.
+use Rattle.std.specs.Prelude.{ℕ, ◌+◌, Bool, true, false, List, [], ◌∷◌, Some, None, Ok, Err, Option}
+use Rattle.card.specs.declared.transfer.Direction.TheVariants.{Read}
+use Rattle.card.specs.declared.transfer.Transfer.{Transfer}
+use Rattle.card.specs.Ends.{End, end_of}
+use Rattle.isa.specs.declared.opcodes.Class.{Class}
+use Rattle.isa.specs.declared.opcodes.Class.TheVariants.{Arithmetic, ArithmeticQuick, Logical, Load, Store, Branch, BranchIndexed, Unknown}
+use Rattle.isa.specs.declared.opcodes.Form.{Form}
+use Rattle.isa.specs.declared.opcodes.Form.TheVariants.{Long, Quick}
+use Rattle.isa.specs.Branch.{taken_by}
+use Rattle.isa.specs.Fields.{instruction_of}
+use Rattle.isa.specs.Opcodes.{class_of, clocks_of}
+use Rattle.machine.specs.Registers.{put}
+use Rattle.machine.specs.State.{State, restarted}
+use Rattle.machine.specs.Step.{step}
+use Rattle.clocked.specs.declared.tick.Answer.{Answer}
+use Rattle.clocked.specs.declared.tick.Answer.TheVariants.{On, Waiting, Ended}
+use Rattle.clocked.specs.Runs.{Event, clocked, reset, drawn, set, given, Entry}
+
+-- The state with a word in a register.
+abbrev pub with_register : ℕ → ℕ → State → State
+with_register r w s =
+    record {
+      axis = s.axis;
+      registers = put s.registers r w;
+      pc = s.pc;
+      flags = s.flags;
+      map = s.map;
+      fault = s.fault;
+    }
+
+abbrev pub compared_by : Answer → State → State
+compared_by On s = s
+compared_by Waiting s = s
+compared_by (Ended o) s = (step s).1
+
+abbrev pub compared_after : Event → State → State
+compared_after (clocked (Ok t)) s = compared_by t.answer s
+compared_after (clocked (Err e)) s = s
+compared_after (reset (Ok u)) s = restarted s
+compared_after (reset (Err e)) s = s
+compared_after (drawn r) s = s
+compared_after (set k n w (Ok u)) s = with_register n w s
+compared_after (set k n w (Err e)) s = s
+compared_after (given k r) s = s
+
+-- The comparison machine after these events, the newest first.
+abbrev pub compared : State → List Event → State
+compared s [] = s
+compared s (e ∷ es) = compared_after e (compared s es)
+
+-- How many clocks a taken branch has more than one that is not taken.
+abbrev pub more_taken : Form → Bool → ℕ
+more_taken f false = 0
+more_taken Long true = 3
+more_taken Quick true = 1
+
+-- The clocks of an instruction without waits, its branch taken or not.
+abbrev pub clocks_for : Class → Bool → ℕ
+clocks_for (Arithmetic op) t = clocks_of (Arithmetic op)
+clocks_for (ArithmeticQuick op) t = clocks_of (ArithmeticQuick op)
+clocks_for (Logical op) t = clocks_of (Logical op)
+clocks_for (Load f) t = clocks_of (Load f)
+clocks_for (Store f) t = clocks_of (Store f)
+clocks_for (Branch f) t = clocks_of (Branch f) + more_taken f t
+clocks_for (BranchIndexed f) t = clocks_of (BranchIndexed f) + more_taken f t
+clocks_for Unknown t = clocks_of Unknown
+
+-- The clocks of the instruction that the comparison machine does next, by what it fetches.
+abbrev pub count_fetched : End → State → ℕ
+count_fetched (Ok w) s = clocks_for (class_of (instruction_of w).opcode) (taken_by (instruction_of w).mask s.flags)
+count_fetched (Err why) s = 0
+
+abbrev pub count_of : State → ℕ
+count_of s = count_fetched (end_of Read (s.map s.pc)) s
+
+-- The accepted clocks since the boundary: an end of an instruction and a reset lead to one.
+abbrev pub clocks_by : Answer → ℕ → ℕ
+clocks_by On n = n + 1
+clocks_by Waiting n = n + 1
+clocks_by (Ended o) n = 0
+
+abbrev pub clocks_after : Event → ℕ → ℕ
+clocks_after (clocked (Ok t)) n = clocks_by t.answer n
+clocks_after (clocked (Err e)) n = n
+clocks_after (reset (Ok u)) n = 0
+clocks_after (reset (Err e)) n = n
+clocks_after (drawn r) n = n
+clocks_after (set k r w a) n = n
+clocks_after (given k r) n = n
+
+abbrev pub clocks_since : List Event → ℕ
+clocks_since [] = 0
+clocks_since (e ∷ es) = clocks_after e (clocks_since es)
+
+-- The waits that a transfer had when it was begun, by the transfer before and after.
+abbrev pub begun : Option Transfer → Option Transfer → ℕ
+begun None None = 0
+begun None (Some t) = t.waits
+begun (Some s) t = 0
+
+abbrev pub begun_in : Entry → ℕ
+begun_in e = begun e.before.card.transfer e.after.card.transfer
+
+-- The waits of the transfers begun since the boundary.
+abbrev pub waits_by : Answer → ℕ → ℕ → ℕ
+waits_by On b w = b + w
+waits_by Waiting b w = b + w
+waits_by (Ended o) b w = 0
+
+abbrev pub waits_after : Event → ℕ → ℕ → ℕ
+waits_after (clocked (Ok t)) b w = waits_by t.answer b w
+waits_after (clocked (Err e)) b w = w
+waits_after (reset (Ok u)) b w = 0
+waits_after (reset (Err e)) b w = w
+waits_after (drawn r) b w = w
+waits_after (set k n v r) b w = w
+waits_after (given k r) b w = w
+
+abbrev pub waits_since : List Entry → ℕ
+waits_since [] = 0
+waits_since (e ∷ es) = waits_after e.event (begun_in e) (waits_since es)
+
+-- The key is out from an accepted draw to the next accepted give back.
+abbrev pub out_after : Event → Bool → Bool
+out_after (clocked r) out = out
+out_after (reset r) out = out
+out_after (drawn (Ok k)) out = true
+out_after (drawn (Err e)) out = out
+out_after (set k n w r) out = out
+out_after (given k (Ok u)) out = false
+out_after (given k (Err e)) out = out
+
+abbrev pub key_out : List Event → Bool
+key_out [] = false
+key_out (e ∷ es) = out_after e (key_out es)

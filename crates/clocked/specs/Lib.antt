@@ -1,0 +1,11 @@
+pub mod Control
+pub mod Processor
+pub mod Table
+pub mod Refusals
+pub mod Calls
+pub mod Advance
+pub mod Runs
+pub mod Comparison
+pub mod Entries
+pub mod Promise
+pub mod Wrong

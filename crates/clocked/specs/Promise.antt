@@ -1,0 +1,85 @@
+-- What is promised of every run of an axis, as one statement over any machine M.
+-- A reader must believe: `Promise M first start` says it of all runs of M from the configuration `start`, compared with
+-- the comparison machine that begins in the state `first`.
+use Rattle.std.specs.Prelude.{◌≡◌, ◌+◌, ◌*◌, Bool, true, false, ◌||◌, List, [], ◌∷◌, length, is_some, None, Ok, Err, Result}
+use Rattle.refusal.specs.declared.Refusal.{Refusal}
+use Rattle.card.specs.Meaning.{Meaning}
+use Rattle.machine.specs.declared.axis.Axis.{Axis}
+use Rattle.machine.specs.State.{State, powered_up}
+use Rattle.clocked.specs.declared.control.Control.TheVariants.{Fetch0}
+use Rattle.clocked.specs.declared.processor.Processor.{Processor}
+use Rattle.clocked.specs.declared.tick.Answer.{Answer}
+use Rattle.clocked.specs.declared.tick.Answer.TheVariants.{On, Waiting, Ended}
+use Rattle.clocked.specs.Entries.{Answers, DidRow, Took, refusal_of, refusal_due, Unchanged, KeyStays}
+use Rattle.clocked.specs.Refusals.{is_at_rest}
+use Rattle.clocked.specs.Comparison.{compared, clocks_since, begun_in, waits_since, key_out}
+use Rattle.clocked.specs.Processor.{shown}
+use Rattle.clocked.specs.Runs.{Config, Event, clocked, reset, drawn, set, given, Entry, events, Run, Made}
+
+-- What holds after the entry e, which came after the entries es.
+pub record Kept (first : State) (es : List Entry) (e : Entry) : Type 0 where
+  -- at a boundary or a halt, the axis shows what the comparison machine has
+  pub agrees : is_at_rest e.after.processor ≡ true →
+      shown e.after.processor e.after.card.map ≡ compared first (events (e ∷ es))
+  pub answers : Answers e.event (compared first (events es))
+  -- halted exactly while the comparison machine has a fault
+  pub halted : is_some e.after.processor.fault ≡ is_some (compared first (events (e ∷ es))).fault
+  pub row : DidRow e.event e.before e.after
+  pub took : Took e.event (compared first (events es)) (clocks_since (events es)) (begun_in e + waits_since es)
+  pub refused : refusal_of e.event ≡ refusal_due e.event e.before
+  pub unchanged : Unchanged (refusal_of e.event) e.before e.after
+  pub stays : KeyStays e.event
+  -- locked exactly while the key is out
+  pub locked : e.after.processor.locked ≡ key_out (events (e ∷ es))
+
+-- Progress. The axis runs: it is neither halted nor locked.
+pub record Running (c : Config) : Type 0 where
+  pub unhalted : c.processor.fault ≡ None
+  pub unlocked : c.processor.locked ≡ false
+
+abbrev pub AreClocks : List Event → Type 0
+AreClocks [] = Unit {0}
+AreClocks (clocked r ∷ es) = AreClocks es
+AreClocks (reset r ∷ es) = ⊥
+AreClocks (drawn r ∷ es) = ⊥
+AreClocks (set k n w r ∷ es) = ⊥
+AreClocks (given k r ∷ es) = ⊥
+
+-- Whether a call ended an instruction: it answered done, ignored or halted.
+abbrev pub ends_by : Answer → Bool
+ends_by On = false
+ends_by Waiting = false
+ends_by (Ended o) = true
+
+abbrev pub ends : Event → Bool
+ends (clocked (Ok t)) = ends_by t.answer
+ends (clocked (Err e)) = false
+ends (reset r) = false
+ends (drawn r) = false
+ends (set k n w r) = false
+ends (given k r) = false
+
+abbrev pub some_ends : List Event → Bool
+some_ends [] = false
+some_ends (e ∷ es) = ends e || some_ends es
+
+-- The start: a boundary, the key in, and what the comparison machine starts with.
+pub record Starts (first : State) (start : Config) : Type 0 where
+  pub boundary : start.processor.control ≡ Fetch0
+  pub running : Running start
+  pub agrees : shown start.processor start.card.map ≡ first
+
+pub record Promise (M : Entry → Type 0) (first : State) (start : Config) : Type 0 where
+  pub starts : Starts first start
+  pub keeps : (e : Entry) (es : List Entry) → Run M start (e ∷ es) e.after → Kept first es e
+  -- wherever the axis runs and the next 10 + 3 × patience calls are clocks, one of them ends an instruction
+  pub progress : (c : Config) (es : List Entry) → Run M start es c → Running c →
+      (d : Config) (fs : List Entry) → Run M c fs d → AreClocks (events fs) →
+      length fs ≡ 10 + 3 * c.card.patience → some_ends (events fs) ≡ true
+
+-- Of power-up with the axis a on the card c: the processor and the card that it hands back keep the promise, compared with
+-- the instruction machine's state at power-up.
+abbrev pub Promised : Result Axis Refusal → Meaning → Result Processor Refusal → Meaning → Type 0
+Promised (Ok a) c (Ok p) d = Promise Made (powered_up a c.map) (record { processor = p; card = d })
+Promised (Ok a) c (Err e) d = Unit {0}
+Promised (Err e) c r d = Unit {0}

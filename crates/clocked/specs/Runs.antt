@@ -1,0 +1,48 @@
+-- Runs of an axis: its calls with their arguments and answers, one after the other, refused ones included.
+-- A reader must believe: each call picks up where the last one ended, which is to say that nothing but these five calls
+-- changes the processor, its card or what lies under it.
+use Rattle.std.specs.Prelude.{◌≡◌, ℕ, List, [], ◌∷◌, map, Result}
+use Rattle.refusal.specs.declared.Refusal.{Refusal}
+use Rattle.card.specs.Meaning.{Meaning}
+use Rattle.clocked.specs.declared.key.Key.{Key}
+use Rattle.clocked.specs.declared.key.NotTaken.{NotTaken}
+use Rattle.clocked.specs.declared.processor.Processor.{Processor}
+use Rattle.clocked.specs.declared.tick.Tick.{Tick}
+use Rattle.clocked.specs.Calls.{Clocked, Reset, Drawn, Set, Given}
+
+-- A processor and the meaning of the card that is lent to its calls.
+pub record Config : Type 0 where
+  pub processor : Processor
+  pub card : Meaning
+
+-- A call with its arguments and its answer.
+pub data Event : Type 0 where
+  clocked : Result Tick Refusal → Event
+  reset : Result (Unit {0}) Refusal → Event
+  drawn : Result Key Refusal → Event
+  set : Key → ℕ → ℕ → Result (Unit {0}) Refusal → Event
+  given : Key → Result (Unit {0}) NotTaken → Event
+
+pub record Entry : Type 0 where
+  pub before : Config
+  pub event : Event
+  pub after : Config
+
+abbrev pub events : List Entry → List Event
+events es = map (λ e. e.event) es
+
+-- A run of a machine M, which is given by its entries, from one configuration to another. The newest entry stands first.
+pub data Run (M : Entry → Type 0) (start : Config) : List Entry → Config → Type 0 where
+  none : Run M start [] start
+  more : (e : Entry) (es : List Entry) → Run M start es e.before → M e → Run M start (e ∷ es) e.after
+
+-- What the five calls of a processor make: the relations of their own contracts.
+abbrev pub MadeBy : Event → Config → Config → Type 0
+MadeBy (clocked r) b a = Clocked b.processor b.card r a.processor a.card
+MadeBy (reset r) b a = Reset b.processor b.card r a.processor a.card
+MadeBy (drawn r) b a = Drawn b.processor r a.processor × (a.card ≡ b.card)
+MadeBy (set k n w r) b a = Set b.processor k n w r a.processor × (a.card ≡ b.card)
+MadeBy (given k r) b a = Given b.processor k r a.processor × (a.card ≡ b.card)
+
+abbrev pub Made : Entry → Type 0
+Made e = MadeBy e.event e.before e.after

@@ -1,0 +1,26 @@
+// The reset, which the safety chain may pull at any clock.
+ghost use Rattle.clocked.specs.Calls.{Reset};
+
+use super::Processor;
+use crate::control::Control;
+use card::Card;
+use refusal::Refusal;
+
+impl Processor {
+    // Stores a pending result, cancels the transfer, sets PC to 0, ends a halt and goes to the boundary. Refused while the
+    // key is out.
+    pub fn reset<C: Card>(&mut self, card: &mut C) -> Result<(), Refusal>
+        ensures { Reset self.old (C.Cells.meaning card.old)
+            result self.new (C.Cells.meaning card.new) }
+    {
+        if self.locked {
+            return Err(Refusal::KeyOut);
+        }
+        self.settle();
+        card.cancel();
+        self.pc = 0;
+        self.fault = None;
+        self.control = Control::Fetch0;
+        Ok(())
+    }
+}
