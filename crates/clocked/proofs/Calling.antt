@@ -17,7 +17,8 @@ use Rattle.clocked.specs.declared.tick.Tick.{Tick}
 use Rattle.clocked.specs.Calls.{Did, Accepted, ClockedUnless, ResetUnless, DrawnUnless, SetUnless, GivenUnless}
 use Rattle.clocked.specs.Refusals.{when_locked, when_halted, clock_refusal, reset_refusal, draw_refusal, key_refusal, is_fetch0, is_at_rest, fits}
 use Rattle.clocked.specs.Comparison.{compared_after, with_register, clocks_after, begun, waits_after, out_after}
-use Rattle.clocked.specs.Processor.{shown, storing, settled, restarting, locking, setting}
+use Rattle.clocked.specs.Changes.{settled, restarting, locking, setting}
+use Rattle.clocked.specs.Processor.{shown, storing}
 use Rattle.clocked.specs.Entries.{Answers, DidRow, Took, refusal_of, refusal_due, Unchanged, KeyStays}
 use Rattle.clocked.specs.Runs.{Config, Event, clocked, reset, drawn, set, given, MadeBy}
 use Rattle.clocked.specs.Table.{row_of}

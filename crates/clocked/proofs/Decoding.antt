@@ -18,7 +18,7 @@ use Rattle.clocked.specs.declared.tick.Answer.TheVariants.{On, Ended}
 use Rattle.clocked.specs.declared.tick.Answer.{Answer}
 use Rattle.clocked.specs.Calls.{Did}
 use Rattle.clocked.specs.Comparison.{count_of, begun, clocks_for}
-use Rattle.clocked.specs.Processor.{going}
+use Rattle.clocked.specs.Changes.{going}
 use Rattle.clocked.specs.Entries.{TookBy}
 use Rattle.clocked.specs.Table.{decodes, row_of}
 use Rattle.clocked.proofs.Invariant.{At, Idle, Fetched, Displaces, Ready, origin, class_in, taken_in, executed_by, resumed, ready_pc, last}

@@ -14,7 +14,7 @@ use Rattle.clocked.specs.declared.tick.Answer.{Answer}
 use Rattle.clocked.specs.declared.tick.Answer.TheVariants.{On, Ended}
 use Rattle.clocked.specs.Calls.{Did, Ends, waits_left}
 use Rattle.clocked.specs.Control.{reads_at}
-use Rattle.clocked.specs.Processor.{going, going_at, halting}
+use Rattle.clocked.specs.Changes.{going, going_at, halting}
 use Rattle.clocked.specs.Table.{on_to, row_of}
 use Rattle.clocked.proofs.Invariant.{At, origin, class_in, taken_in, resumed}
 use Rattle.clocked.proofs.Gives.{Gives, given_as}

@@ -16,7 +16,8 @@ use Rattle.clocked.specs.declared.tick.Answer.{Answer}
 use Rattle.clocked.specs.declared.tick.Answer.TheVariants.{Waiting, Ended}
 use Rattle.clocked.specs.Calls.{Ends, PollsFrom, waits_left}
 use Rattle.clocked.specs.Comparison.{begun}
-use Rattle.clocked.specs.Processor.{shown, storing, going_at, halting}
+use Rattle.clocked.specs.Changes.{going_at, halting}
+use Rattle.clocked.specs.Processor.{shown, storing}
 use Rattle.clocked.specs.Entries.{TookBy}
 use Rattle.clocked.specs.Table.{Move}
 use Rattle.clocked.proofs.Gives.{Gives, given_as}

@@ -26,7 +26,8 @@ use Rattle.clocked.specs.declared.tick.Answer.TheVariants.{On, Ended}
 use Rattle.clocked.specs.Calls.{Did, Ends, waits_left}
 use Rattle.clocked.specs.Comparison.{count_of, begun}
 use Rattle.clocked.specs.Control.{request_of, stage_of}
-use Rattle.clocked.specs.Processor.{shown, going, going_at, latching, halting}
+use Rattle.clocked.specs.Changes.{going, going_at, latching, halting}
+use Rattle.clocked.specs.Processor.{shown}
 use Rattle.clocked.specs.Entries.{TookBy}
 use Rattle.clocked.specs.Table.{executes, latches, skipping, completes, row_of}
 use Rattle.clocked.proofs.Invariant.{At, Idle, Ready, origin, class_in, taken_in, resumed, accessed, last, end_in}

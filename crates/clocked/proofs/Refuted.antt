@@ -17,7 +17,8 @@ use Rattle.clocked.specs.declared.tick.Answer.TheVariants.{On, Waiting, Ended}
 use Rattle.clocked.specs.Calls.{Did}
 use Rattle.clocked.specs.Refusals.{when_transfer}
 use Rattle.clocked.specs.Control.{named}
-use Rattle.clocked.specs.Processor.{shown, going, noting, settled}
+use Rattle.clocked.specs.Changes.{going, noting, settled}
+use Rattle.clocked.specs.Processor.{shown}
 use Rattle.clocked.specs.Promise.{Promise, Kept}
 use Rattle.clocked.specs.Runs.{Config, clocked, Entry, none, more}
 use Rattle.clocked.specs.Table.{row_of}

@@ -11,7 +11,8 @@ use Rattle.clocked.specs.declared.pending.Pending.{Pending}
 use Rattle.clocked.specs.declared.processor.Processor.{Processor}
 use Rattle.clocked.specs.Refusals.{clock_refusal, is_fetch0, rests_at, when_locked, when_halted, when_transfer}
 use Rattle.clocked.specs.Control.{reads_at, request_of}
-use Rattle.clocked.specs.Processor.{shown, settled, storing, restarting}
+use Rattle.clocked.specs.Changes.{settled, restarting}
+use Rattle.clocked.specs.Processor.{shown, storing}
 use Rattle.clocked.specs.Table.{row_of}
 use Rattle.clocked.proofs.Invariant.{At, Mid, Rest, Requests}
 use Rattle.clocked.proofs.Steps.{never_both}

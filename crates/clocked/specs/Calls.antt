@@ -17,7 +17,8 @@ use Rattle.clocked.specs.declared.tick.Answer.{Answer}
 use Rattle.clocked.specs.declared.tick.Answer.TheVariants.{On, Waiting, Ended}
 use Rattle.clocked.specs.declared.tick.Tick.{Tick}
 use Rattle.clocked.specs.Control.{named}
-use Rattle.clocked.specs.Processor.{fresh, settled, halting, restarting, locking, setting}
+use Rattle.clocked.specs.Changes.{settled, halting, restarting, locking, setting}
+use Rattle.clocked.specs.Processor.{fresh}
 use Rattle.clocked.specs.Refusals.{clock_refusal, reset_refusal, draw_refusal, key_refusal}
 use Rattle.clocked.specs.Table.{Move, Row, moves, begins, polls, row_of}
 

@@ -1,5 +1,6 @@
 pub mod Control
 pub mod Processor
+pub mod Changes
 pub mod Table
 pub mod Refusals
 pub mod Calls

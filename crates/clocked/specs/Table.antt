@@ -24,7 +24,7 @@ use Rattle.clocked.specs.declared.processor.Processor.{Processor}
 use Rattle.clocked.specs.declared.tick.Answer.{Answer}
 use Rattle.clocked.specs.declared.tick.Answer.TheVariants.{On, Ended}
 use Rattle.clocked.specs.Control.{reads_at, request_of, stage_of}
-use Rattle.clocked.specs.Processor.{settled, going, going_at, noting, latching}
+use Rattle.clocked.specs.Changes.{settled, going, going_at, noting, latching}
 
 -- An answer, and the processor afterwards.
 abbrev pub Move : Type 0

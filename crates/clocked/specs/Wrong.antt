@@ -1,6 +1,6 @@
 -- Seven wrong machines, and that each of them breaks the promise: what the promise refuses.
--- A reader must believe: nothing; this is shown of the definition of the promise. A machine is given by its entries. Each
--- of these has just those that break the promise: with more entries it would have more runs, and break it as well.
+-- A reader must believe: nothing; this is shown of the definition of the promise. A machine is given by its entries, and the
+-- promise is about all runs that they make: a machine that can do more than one of these breaks it by the same runs.
 use Rattle.std.specs.Prelude.{None, Ok, Err}
 use Rattle.refusal.specs.declared.Refusal.{Refusal}
 use Rattle.refusal.specs.declared.Refusal.TheVariants as refused
@@ -10,6 +10,7 @@ use Rattle.machine.specs.declared.axis.Axis.TheVariants.{One}
 use Rattle.machine.specs.declared.machine.Outcome.TheVariants.{Done, Halted}
 use Rattle.machine.specs.State.{State, powered_up}
 use Rattle.machine.specs.Step.{step}
+use Rattle.clocked.specs.declared.control.Control.{Control}
 use Rattle.clocked.specs.declared.control.Control.TheVariants as control
 use Rattle.clocked.specs.declared.control.ControlState.{ControlState}
 use Rattle.clocked.specs.declared.control.ControlState.TheVariants.{Fetch0, Fetch1}
@@ -17,7 +18,8 @@ use Rattle.clocked.specs.declared.processor.Processor.{Processor}
 use Rattle.clocked.specs.declared.tick.Answer.{Answer}
 use Rattle.clocked.specs.declared.tick.Answer.TheVariants.{On, Waiting, Ended}
 use Rattle.clocked.specs.Control.{named}
-use Rattle.clocked.specs.Processor.{shown, fresh, going, noting, settled}
+use Rattle.clocked.specs.Changes.{going, noting, settled}
+use Rattle.clocked.specs.Processor.{shown, fresh}
 use Rattle.clocked.specs.Promise.{Promise}
 use Rattle.clocked.specs.Runs.{Config, Event, clocked, Entry}
 
@@ -46,10 +48,11 @@ holding s p =
       locked = p.locked;
     }
 
--- Does all the work of an instruction in fetch_0; then it may idle.
+-- Does all the work of an instruction in fetch_0, and then idles from state to state.
 pub data WorksAtOnce : Entry → Type 0 where
   works : (c : Config) →
       WorksAtOnce (entry c (ticks Fetch0 On) (with c (holding (step (shown c.processor c.card.map)).1 c.processor)))
+  idles : (c : Config) (k : Control) → WorksAtOnce (entry c (ticks (named c.processor.control) On) (with c (going k c.processor)))
 
 -- Answers waiting where it asked nothing.
 pub data WaitsUnasked : Entry → Type 0 where

@@ -5,7 +5,8 @@ ghost use Rattle.machine.specs.Axes.{axis_of};
 ghost use Rattle.machine.specs.Registers.{read};
 ghost use Rattle.clocked.specs.Calls.{PoweredUp};
 ghost use Rattle.clocked.specs.Control.{named};
-ghost use Rattle.clocked.specs.Processor.{registers_of, settled};
+ghost use Rattle.clocked.specs.Changes.{settled};
+ghost use Rattle.clocked.specs.Processor.{registers_of};
 ghost use Rattle.clocked.specs.Promise.{Promised};
 ghost use Rattle.clocked.specs.Wrong.{Refused};
 

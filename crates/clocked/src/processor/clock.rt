@@ -9,7 +9,7 @@ ghost use Rattle.clocked.specs.declared.tick.Answer.TheVariants.{On, Ended};
 ghost use Rattle.clocked.specs.Advance.{Advanced, PollsIn};
 ghost use Rattle.clocked.specs.Calls.{Clocked};
 ghost use Rattle.clocked.specs.Control.{reads_at};
-ghost use Rattle.clocked.specs.Processor.{going, going_at, noting, settled, halting};
+ghost use Rattle.clocked.specs.Changes.{going, going_at, noting, settled, halting};
 ghost use Rattle.clocked.specs.Table.{decodes, executes, latches, branches, completes};
 
 use super::Processor;
