@@ -23,6 +23,8 @@ mod resets;
 #[cfg(test)]
 mod rows;
 #[cfg(test)]
+mod script;
+#[cfg(test)]
 mod shown;
 #[cfg(test)]
 mod transfers;

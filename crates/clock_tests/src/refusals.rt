@@ -1,7 +1,6 @@
 // The order of the refusals: a key that is out, a halt, a transfer.
-use super::common::{View, clocks, hand_back, refused_draw};
-use card::{Card, Direction, Request, WordCard};
-use clocked::Processor;
+use super::script::{Answer, Call, Said, follows};
+use card::{Direction, Request, WordCard};
 use refusal::Refusal;
 use std::test::Fail;
 
@@ -10,29 +9,30 @@ const FOREIGN: Request = Request {
     address: 0,
 };
 
-// A load from an absent cell halts after 7 clocks; then somebody begins a transfer, and the key is drawn.
+// A load from an absent cell halts; then somebody begins a transfer, and the key is drawn. No refused call touches the
+// transfer, which the accepted reset cancels.
+static KEY_THEN_HALT: [(Call, Answer); 17] = [
+    (Call::Clocks(7), Ok(Said::Nothing)),
+    (Call::Begin(FOREIGN), Ok(Said::Waits(0))),
+    (Call::Clock, Err(Refusal::Halted)),
+    (Call::Draw, Ok(Said::Nothing)),
+    (Call::Clock, Err(Refusal::KeyOut)),
+    (Call::Reset, Err(Refusal::KeyOut)),
+    (Call::Draw, Err(Refusal::KeyOut)),
+    (Call::GiveBack, Ok(Said::Nothing)),
+    (Call::Clock, Err(Refusal::Halted)),
+    (Call::Begin(FOREIGN), Err(Refusal::Transfer)),
+    (Call::Reset, Ok(Said::Nothing)),
+    (Call::Poll, Err(Refusal::Transfer)),
+    (Call::Clocks(1), Ok(Said::Nothing)),
+    (Call::Begin(FOREIGN), Ok(Said::Waits(0))),
+    (Call::Clock, Err(Refusal::Transfer)),
+    (Call::Draw, Err(Refusal::NoBoundary)),
+    (Call::Reset, Ok(Said::Nothing)),
+];
+
 #[test]
-fn key_then_halt_then_transfer(rt: HostRuntime) -> Result<(), Fail> {
+fn key_then_halt(rt: HostRuntime) -> Result<(), Fail> {
     let mut words = [0x3001_0009];
-    let mut card = WordCard::new(&mut words);
-    let mut axis = Processor::power_up(2, &mut card)?;
-    clocks(&mut axis, &mut card, 7)?;
-    card.begin(FOREIGN)?;
-    let before = View::of(&axis);
-    let key = axis.draw()?;
-    assert_eq!(rt; axis.clock(&mut card), Err(Refusal::KeyOut));
-    assert_eq!(rt; axis.reset(&mut card), Err(Refusal::KeyOut));
-    assert_eq!(rt; refused_draw(&rt, &mut axis), Refusal::KeyOut);
-    assert_eq!(rt; View::of(&axis), before);
-    hand_back(&rt, &mut axis, key);
-    assert_eq!(rt; axis.clock(&mut card), Err(Refusal::Halted));
-    assert_eq!(rt; View::of(&axis), before);
-    // none of these has touched the transfer, which the accepted reset cancels
-    assert_eq!(rt; card.begin(FOREIGN), Err(Refusal::Transfer));
-    axis.reset(&mut card)?;
-    assert_eq!(rt; card.poll(), Err(Refusal::Transfer));
-    clocks(&mut axis, &mut card, 1)?;
-    card.begin(FOREIGN)?;
-    assert_eq!(rt; axis.clock(&mut card), Err(Refusal::Transfer));
-    Ok(())
+    follows(&rt, &mut WordCard::new(&mut words), &KEY_THEN_HALT)
 }
