@@ -19,7 +19,7 @@ use Rattle.clocked.specs.Refusals.{when_transfer}
 use Rattle.clocked.specs.Control.{named}
 use Rattle.clocked.specs.Changes.{going, noting, settled}
 use Rattle.clocked.specs.Processor.{shown}
-use Rattle.clocked.specs.Promise.{Promise, Kept}
+use Rattle.clocked.specs.Promise.{Promise, Timing, Refusing}
 use Rattle.clocked.specs.Runs.{Config, clocked, Entry, none, more}
 use Rattle.clocked.specs.Table.{row_of}
 use Rattle.clocked.specs.Wrong.{Broken, Refused, WorksAtOnce, works, WaitsUnasked, waits, MakesUpItsCount, finishes, HaltsBefore, halts, NeverUsesTheCard, from_fetch0, from_fetch1, StaysInFetch0, stays, RefusesEveryClock, refuses, entry, ticks, with, holding, summing, sums}
@@ -27,8 +27,11 @@ use Rattle.clocked.proofs.Resting.{running_refusal}
 use Rattle.clocked.proofs.Steps.{some_none}
 
 -- What the promise says of a first entry.
-once : (M : Entry → Type 0) (s : State) (e : Entry) → Promise M s e.before → M e → Kept s [] e
-once M s e h m = h.keeps e [] (more e [] none m)
+once : (M : Entry → Type 0) (s : State) (e : Entry) → Promise M s e.before → M e → Timing s [] e
+once M s e h m = h.timing e [] (more e [] none m)
+
+first_refusal : (M : Entry → Type 0) (s : State) (e : Entry) → Promise M s e.before → M e → Refusing [] e
+first_refusal M s e h m = h.refusing e [] (more e [] none m)
 
 -- A clock at the start, in fetch_0, does the row of fetch_0.
 first_row : (M : Entry → Type 0) (s : State) (c d : Config) (t : Answer) → Promise M s c → M (entry c (ticks (named c.processor.control) t) d) →
@@ -80,14 +83,16 @@ card_broken s c h =
     let b : Config = with c p in
     let e : Entry = entry c (ticks Fetch0 On) b in
     let f : Entry = entry b (ticks Fetch1 On) (with b p) in
-    let k = h.keeps f (e ∷ []) (more f (e ∷ []) (more e [] none (from_fetch0 c)) (from_fetch1 b p)) in
+    let run = more f (e ∷ []) (more e [] none (from_fetch0 c)) (from_fetch1 b p) in
+    let k = h.timing f (e ∷ []) run in
+    let l = h.refusing f (e ∷ []) run in
     let busy = ap (λ (m : Meaning). m.transfer) k.row.1.2.0 in
     let refusal = running_refusal p c.card h.starts.running.unhalted h.starts.running.unlocked in
-    some_none _ (sym (k.refused ∙ refusal ∙ ap (when_transfer (row_of control.Fetch1 p)) busy))
+    some_none _ (sym (l.refused ∙ refusal ∙ ap (when_transfer (row_of control.Fetch1 p)) busy))
 
 refuses_broken : (r : Refusal) → Broken (RefusesEveryClock r)
 refuses_broken r s c h =
-    let k = once (RefusesEveryClock r) s (entry c (clocked (Err r)) c) h (refuses r c) in
+    let k = first_refusal (RefusesEveryClock r) s (entry c (clocked (Err r)) c) h (refuses r c) in
     let refusal = running_refusal c.processor c.card h.starts.running.unhalted h.starts.running.unlocked in
     some_none r
     (k.refused ∙ refusal ∙ ap (λ (x : Control). when_transfer (row_of x c.processor) c.card.transfer) h.starts.boundary)

@@ -1,24 +1,28 @@
 -- The promise, of the processor and the card that power-up hands back: the invariant along every run, and the clocks left.
-use Rattle.std.proofs.Common.{◌≡◌, ℕ, ◌+◌, ◌*◌, ◌≤◌, Bool, true, false, ◌||◌, List, [], ◌∷◌, length, is_some, None, Ok, Err, Result, sym, refl, ap, ◌∙◌, subst, arith}
+use Rattle.std.proofs.Common.{◌≡◌, ℕ, ◌+◌, ◌*◌, ◌≤◌, Bool, true, false, ◌||◌, ◌&&◌, ◌==◌, Option, Some, List, [], ◌∷◌, length, is_some, None, Ok, Err, Result, sym, refl, ap, ◌∙◌, subst, arith}
 use Rattle.refusal.specs.declared.Refusal.{Refusal}
 use Rattle.card.specs.Meaning.{Meaning, idle}
 use Rattle.machine.specs.declared.axis.Axis.{Axis}
+use Rattle.machine.specs.declared.axis.Axis.TheVariants.{One, Two, Three}
+use Rattle.machine.specs.Axes.{axis_number}
+use Rattle.clocked.specs.declared.key.Key.{Key}
 use Rattle.machine.specs.State.{State, powered_up}
 use Rattle.clocked.specs.declared.control.Control.{Control}
 use Rattle.clocked.specs.declared.control.Control.TheVariants.{Fetch0, Fetch1, Fetch2, Decode, DispFetch0, DispFetch1, DispFetch2, Execute0, Execute1, Execute2}
 use Rattle.clocked.specs.declared.processor.Processor.{Processor}
 use Rattle.clocked.specs.declared.tick.Answer.{Answer}
 use Rattle.clocked.specs.declared.tick.Answer.TheVariants.{On, Waiting, Ended}
-use Rattle.clocked.specs.Calls.{PoweredAs, waits_left}
-use Rattle.clocked.specs.Refusals.{clock_refusal}
+use Rattle.clocked.specs.Calls.{PoweredAs, DrawnUnless, waits_left}
+use Rattle.clocked.specs.Refusals.{clock_refusal, draw_refusal, fits}
 use Rattle.clocked.specs.Comparison.{compared, compared_by, clocks_since, waits_since, key_out, out_after}
+use Rattle.clocked.specs.Entries.{KeyFits}
 use Rattle.clocked.specs.Processor.{fresh}
-use Rattle.clocked.specs.Promise.{Promise, Promised, Kept, Running, AreClocks, ends, ends_by, some_ends}
+use Rattle.clocked.specs.Promise.{Promise, Promised, Agreement, Timing, Refusing, Keyed, Running, AreClocks, ends, ends_by, some_ends}
 use Rattle.clocked.specs.Runs.{Config, Event, clocked, reset, drawn, set, given, Entry, events, Run, none, more, Made, MadeBy}
 use Rattle.clocked.proofs.Invariant.{At, Inv, clocks_left, μ}
 use Rattle.clocked.proofs.Gives.{FallsBy}
-use Rattle.clocked.proofs.Calling.{follows}
-use Rattle.clocked.proofs.Resting.{whereabouts, same_fault, agreeing, running_refusal, due}
+use Rattle.clocked.proofs.Calling.{Follows, follows}
+use Rattle.clocked.proofs.Resting.{Where, whereabouts, same_fault, agreeing, running_refusal, due}
 use Rattle.clocked.proofs.Steps.{never_both, some_none}
 
 -- The run before its newest entry, and that entry.
@@ -29,6 +33,25 @@ Before M start (e ∷ es) = Run M start es e.before × M e
 before : {M : Entry → Type 0} {start : Config} {es : List Entry} {c : Config} → Run M start es c → Before M start es
 before none = tt
 before (more e es r m) = (r, m)
+
+-- The key that a draw answers fits the processor afterwards.
+own_axis : (a : Axis) → ((axis_number a == axis_number a) && true) ≡ true
+own_axis One = refl
+own_axis Two = refl
+own_axis Three = refl
+
+drawn_fits : (x : Option Refusal) (p : Processor) (r : Result Key Refusal) (a : Config) → DrawnUnless x p r a.processor → KeyFits (drawn r) a
+drawn_fits None p r a h =
+    subst (λ (y : Result Key Refusal). KeyFits (drawn y) a) (sym h.0)
+    (subst (λ (q : Processor). fits (record { axis = axis_number p.axis }) q ≡ true) (sym h.1) (own_axis p.axis))
+drawn_fits (Some e) p r a h = subst (λ (y : Result Key Refusal). KeyFits (drawn y) a) (sym h.0) tt
+
+fitting : (e : Event) (b a : Config) → MadeBy e b a → KeyFits e a
+fitting (clocked r) b a h = tt
+fitting (reset r) b a h = tt
+fitting (drawn r) b a h = drawn_fits (draw_refusal b.processor) b.processor r a h.0
+fitting (set k n w r) b a h = tt
+fitting (given k r) b a h = tt
 
 -- The invariant holds along a run, compared with the machine that began in the state s with n clocks and w waits.
 module _ (start : Config) (s : State) (key : start.processor.locked ≡ false) (at : Inv s 0 0 start.processor start.card) where
@@ -43,22 +66,34 @@ module _ (start : Config) (s : State) (key : start.processor.locked ≡ false) (
       let f = follows _ _ _ e.before.processor e.before.card h.inv e.event e.after m in
       record { inv = f.inv; lock = f.locked ∙ ap (out_after e.event) h.lock }
 
-  kept : (e : Entry) (es : List Entry) → Run Made start es e.before → Made e → Kept s es e
-  kept e es r m =
-      let h = along r in
-      let f = follows (compared s (events es)) (clocks_since (events es)) (waits_since es) e.before.processor e.before.card h.inv e.event e.after m in
-      let place = whereabouts e.after.processor.control (compared s (events (e ∷ es))) (clocks_since (events (e ∷ es))) (waits_since (e ∷ es)) e.after.processor e.after.card f.inv in
-      record {
-        agrees = agreeing (compared s (events (e ∷ es))) (clocks_since (events (e ∷ es))) (waits_since (e ∷ es)) e.after.processor e.after.card place;
-        answers = f.answers;
-        halted = ap is_some (sym (same_fault (compared s (events (e ∷ es))) (clocks_since (events (e ∷ es))) (waits_since (e ∷ es)) e.after.processor e.after.card place));
-        row = f.row;
-        took = f.took;
-        refused = f.refused;
-        unchanged = f.unchanged;
-        stays = f.stays;
-        locked = f.locked ∙ ap (out_after e.event) h.lock;
-      }
+  module _ (e : Entry) (es : List Entry) (r : Run Made start (e ∷ es) e.after) where
+    gives : Follows (compared s (events es)) (clocks_since (events es)) (waits_since es) e.before e.event e.after
+    gives = follows _ _ _ e.before.processor e.before.card (along (before r).0).inv e.event e.after (before r).1
+
+    place : Where e.after.processor.control (compared s (events (e ∷ es))) (clocks_since (events (e ∷ es))) (waits_since (e ∷ es)) e.after.processor e.after.card
+    place = whereabouts e.after.processor.control _ _ _ e.after.processor e.after.card gives.inv
+
+    agreement : Agreement s es e
+    agreement =
+        record {
+          shows = agreeing _ _ _ e.after.processor e.after.card place;
+          answers = gives.answers;
+          halted = ap is_some (sym (same_fault _ _ _ e.after.processor e.after.card place));
+        }
+
+    timing : Timing s es e
+    timing = record { row = gives.row; took = gives.took }
+
+    refusing : Refusing es e
+    refusing = record { refused = gives.refused; unchanged = gives.unchanged }
+
+    keyed : Keyed es e
+    keyed =
+        record {
+          key_fits = fitting e.event e.before e.after (before r).1;
+          stays = gives.stays;
+          locked = gives.locked ∙ ap (out_after e.event) (along (before r).0).lock;
+        }
 
 -- Of a running axis a clock is accepted.
 accepts : (A : State) (n w : ℕ) (p : Processor) (c : Meaning) → Inv A n w p c → p.fault ≡ None → p.locked ≡ false → clock_refusal p c ≡ None
@@ -175,7 +210,10 @@ holds a c =
     let first : State = powered_up a c.map in
     record {
       starts = record { boundary = refl; running = record { unhalted = refl; unlocked = refl }; agrees = refl };
-      keeps = λ e es r. kept start first refl (start_at a c) e es (before r).0 (before r).1;
+      agreement = agreement start first refl (start_at a c);
+      timing = timing start first refl (start_at a c);
+      refusing = refusing start first refl (start_at a c);
+      keyed = keyed start first refl (start_at a c);
       progress = λ b es r runs d fs. progress b _ _ _ (along start first refl (start_at a c) r).inv runs d fs;
     }
 

@@ -1,6 +1,6 @@
 -- What is asked of one entry of a run, by its event.
 -- A reader must believe: each of these says what its comment says, and asks nothing of events that it does not name.
-use Rattle.std.specs.Prelude.{◌≡◌, ℕ, ◌+◌, Some, None, Ok, Err, Option, Result}
+use Rattle.std.specs.Prelude.{◌≡◌, ℕ, ◌+◌, true, Some, None, Ok, Err, Option, Result}
 use Rattle.refusal.specs.declared.Refusal.{Refusal}
 use Rattle.machine.specs.declared.machine.Outcome.TheVariants.{Done, Ignored, Halted}
 use Rattle.machine.specs.State.{State}
@@ -9,7 +9,7 @@ use Rattle.clocked.specs.declared.tick.Answer.{Answer}
 use Rattle.clocked.specs.declared.tick.Answer.TheVariants.{On, Waiting, Ended}
 use Rattle.clocked.specs.Calls.{Accepted}
 use Rattle.clocked.specs.Comparison.{count_of}
-use Rattle.clocked.specs.Refusals.{clock_refusal, reset_refusal, draw_refusal, key_refusal}
+use Rattle.clocked.specs.Refusals.{clock_refusal, reset_refusal, draw_refusal, key_refusal, fits}
 use Rattle.clocked.specs.Runs.{Config, Event, clocked, reset, drawn, set, given}
 
 -- Agreement. Every end of an instruction is also the comparison machine's answer, which is in the state s.
@@ -83,3 +83,12 @@ KeyStays (drawn r) = Unit {0}
 KeyStays (set k n w r) = Unit {0}
 KeyStays (given k (Ok u)) = Unit {0}
 KeyStays (given k (Err e)) = e.key ≡ k
+
+-- A key that was drawn fits the processor.
+abbrev pub KeyFits : Event → Config → Type 0
+KeyFits (clocked r) a = Unit {0}
+KeyFits (reset r) a = Unit {0}
+KeyFits (drawn (Ok k)) a = fits k a.processor ≡ true
+KeyFits (drawn (Err e)) a = Unit {0}
+KeyFits (set k n w r) a = Unit {0}
+KeyFits (given k r) a = Unit {0}

@@ -10,29 +10,42 @@ use Rattle.clocked.specs.declared.control.Control.TheVariants.{Fetch0}
 use Rattle.clocked.specs.declared.processor.Processor.{Processor}
 use Rattle.clocked.specs.declared.tick.Answer.{Answer}
 use Rattle.clocked.specs.declared.tick.Answer.TheVariants.{On, Waiting, Ended}
-use Rattle.clocked.specs.Entries.{Answers, DidRow, Took, refusal_of, refusal_due, Unchanged, KeyStays}
+use Rattle.clocked.specs.Entries.{Answers, DidRow, Took, refusal_of, refusal_due, Unchanged, KeyStays, KeyFits}
 use Rattle.clocked.specs.Refusals.{is_at_rest}
 use Rattle.clocked.specs.Comparison.{compared, clocks_since, begun_in, waits_since, key_out}
 use Rattle.clocked.specs.Processor.{shown}
 use Rattle.clocked.specs.Runs.{Config, Event, clocked, reset, drawn, set, given, Entry, events, Run, Made}
 
--- What holds after the entry e, which came after the entries es.
-pub record Kept (first : State) (es : List Entry) (e : Entry) : Type 0 where
+-- Agreement with the comparison machine after the entry e, which came after the entries es.
+pub record Agreement (first : State) (es : List Entry) (e : Entry) : Type 0 where
   -- at a boundary or a halt, the axis shows what the comparison machine has
-  pub agrees : is_at_rest e.after.processor ≡ true →
+  pub shows : is_at_rest e.after.processor ≡ true →
       shown e.after.processor e.after.card.map ≡ compared first (events (e ∷ es))
   pub answers : Answers e.event (compared first (events es))
   -- halted exactly while the comparison machine has a fault
   pub halted : is_some e.after.processor.fault ≡ is_some (compared first (events (e ∷ es))).fault
+
+-- Timing: an accepted clock did its state's row, and a finished instruction took its own count and its waits.
+pub record Timing (first : State) (es : List Entry) (e : Entry) : Type 0 where
   pub row : DidRow e.event e.before e.after
   pub took : Took e.event (compared first (events es)) (clocks_since (events es)) (begun_in e + waits_since es)
+
+-- A call is refused exactly when it is due, and then changes nothing.
+pub record Refusing (es : List Entry) (e : Entry) : Type 0 where
   pub refused : refusal_of e.event ≡ refusal_due e.event e.before
   pub unchanged : Unchanged (refusal_of e.event) e.before e.after
+
+-- The key: a drawn one fits, one that is not taken stays with the caller, and the axis is locked exactly while it is out.
+pub record Keyed (es : List Entry) (e : Entry) : Type 0 where
+  pub key_fits : KeyFits e.event e.after
   pub stays : KeyStays e.event
-  -- locked exactly while the key is out
   pub locked : e.after.processor.locked ≡ key_out (events (e ∷ es))
 
--- Progress. The axis runs: it is neither halted nor locked.
+-- What holds of every entry of every run of M from the configuration `start`, with the entries before it.
+abbrev pub Always : (Entry → Type 0) → Config → (List Entry → Entry → Type 0) → Type 0
+Always M start P = (e : Entry) (es : List Entry) → Run M start (e ∷ es) e.after → P es e
+
+-- The axis runs: it is neither halted nor locked.
 pub record Running (c : Config) : Type 0 where
   pub unhalted : c.processor.fault ≡ None
   pub unlocked : c.processor.locked ≡ false
@@ -69,13 +82,19 @@ pub record Starts (first : State) (start : Config) : Type 0 where
   pub running : Running start
   pub agrees : shown start.processor start.card.map ≡ first
 
+-- Wherever the axis runs and the next 10 + 3 × patience calls are clocks, one of them ends an instruction.
+abbrev pub Progress : (Entry → Type 0) → Config → Type 0
+Progress M start = (c : Config) (es : List Entry) → Run M start es c → Running c →
+    (d : Config) (fs : List Entry) → Run M c fs d → AreClocks (events fs) →
+    length fs ≡ 10 + 3 * c.card.patience → some_ends (events fs) ≡ true
+
 pub record Promise (M : Entry → Type 0) (first : State) (start : Config) : Type 0 where
   pub starts : Starts first start
-  pub keeps : (e : Entry) (es : List Entry) → Run M start (e ∷ es) e.after → Kept first es e
-  -- wherever the axis runs and the next 10 + 3 × patience calls are clocks, one of them ends an instruction
-  pub progress : (c : Config) (es : List Entry) → Run M start es c → Running c →
-      (d : Config) (fs : List Entry) → Run M c fs d → AreClocks (events fs) →
-      length fs ≡ 10 + 3 * c.card.patience → some_ends (events fs) ≡ true
+  pub agreement : Always M start (Agreement first)
+  pub timing : Always M start (Timing first)
+  pub refusing : Always M start Refusing
+  pub keyed : Always M start Keyed
+  pub progress : Progress M start
 
 -- Of power-up with the axis a on the card c: the processor and the card that it hands back keep the promise, compared with
 -- the instruction machine's state at power-up.
