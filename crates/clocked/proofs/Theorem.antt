@@ -82,7 +82,7 @@ module _ (start : Config) (s : State) (key : start.processor.locked ≡ false) (
         }
 
     timing : Timing s es e
-    timing = record { row = gives.row; took = gives.took }
+    timing = record { row = gives.row; counted = gives.took }
 
     refusing : Refusing es e
     refusing = record { refused = gives.refused; unchanged = gives.unchanged }
@@ -209,7 +209,7 @@ holds a c =
     let start : Config = record { processor = fresh a; card = idle c } in
     let first : State = powered_up a c.map in
     record {
-      starts = record { boundary = refl; running = record { unhalted = refl; unlocked = refl }; agrees = refl };
+      starts = record { boundary = refl; running = record { unhalted = refl; unlocked = refl }; idle = refl; agrees = refl };
       agreement = agreement start first refl (start_at a c);
       timing = timing start first refl (start_at a c);
       refusing = refusing start first refl (start_at a c);

@@ -25,10 +25,13 @@ pub record Agreement (first : State) (es : List Entry) (e : Entry) : Type 0 wher
   -- halted exactly while the comparison machine has a fault
   pub halted : is_some e.after.processor.fault ≡ is_some (compared first (events (e ∷ es))).fault
 
--- Timing: an accepted clock did its state's row, and a finished instruction took its own count and its waits.
+-- Timing: a finished instruction took its own count and its waits, and an accepted clock did its state's row.
+abbrev pub Counted : State → List Entry → Entry → Type 0
+Counted first es e = Took e.event (compared first (events es)) (clocks_since (events es)) (begun_in e + waits_since es)
+
 pub record Timing (first : State) (es : List Entry) (e : Entry) : Type 0 where
   pub row : DidRow e.event e.before e.after
-  pub took : Took e.event (compared first (events es)) (clocks_since (events es)) (begun_in e + waits_since es)
+  pub counted : Counted first es e
 
 -- A call is refused exactly when it is due, and then changes nothing.
 pub record Refusing (es : List Entry) (e : Entry) : Type 0 where
@@ -76,10 +79,11 @@ abbrev pub some_ends : List Event → Bool
 some_ends [] = false
 some_ends (e ∷ es) = ends e || some_ends es
 
--- The start: a boundary, the key in, and what the comparison machine starts with.
+-- The start: a boundary, the key in, no transfer in being, and what the comparison machine starts with.
 pub record Starts (first : State) (start : Config) : Type 0 where
   pub boundary : start.processor.control ≡ Fetch0
   pub running : Running start
+  pub idle : start.card.transfer ≡ None
   pub agrees : shown start.processor start.card.map ≡ first
 
 -- Wherever the axis runs and the next 10 + 3 × patience calls are clocks, one of them ends an instruction.
