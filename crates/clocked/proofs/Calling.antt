@@ -72,7 +72,7 @@ module _ (A : State) (n w : ℕ) (p : Processor) (c : Meaning) (t : Answer) (q :
   by_state (Execute2 a) e at did = execute2 A n w p c t q d a e at did
 
 -- A call that is not refused has not what it would be refused for.
-no_lock : (l : Bool) (x : Option Refusal) → when_locked l x ≡ None → (l ≡ false) × (x ≡ None)
+pub no_lock : (l : Bool) (x : Option Refusal) → when_locked l x ≡ None → (l ≡ false) × (x ≡ None)
 no_lock false x e = (refl, e)
 no_lock true x e = elim (some_none _ e) [ ]
 

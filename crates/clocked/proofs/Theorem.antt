@@ -20,6 +20,7 @@ use Rattle.clocked.specs.Processor.{fresh}
 use Rattle.clocked.specs.Promise.{Promise, Promised, Agreement, Timing, Refusing, Keyed, Running, AreClocks, ends, ends_by, some_ends}
 use Rattle.clocked.specs.Runs.{Config, Event, clocked, reset, drawn, set, given, Entry, events, Run, none, more, Made, MadeBy}
 use Rattle.clocked.proofs.Invariant.{At, Inv, clocks_left, μ}
+use Rattle.clocked.proofs.Answering.{answers}
 use Rattle.clocked.proofs.Gives.{FallsBy}
 use Rattle.clocked.proofs.Calling.{Follows, follows}
 use Rattle.clocked.proofs.Resting.{Where, whereabouts, same_fault, agreeing, running_refusal, due}
@@ -215,6 +216,7 @@ holds a c =
       refusing = refusing start first refl (start_at a c);
       keyed = keyed start first refl (start_at a c);
       progress = λ b es r runs d fs. progress b _ _ _ (along start first refl (start_at a c) r).inv runs d fs;
+      answering = λ c es r x. answers c x;
     }
 
 pub promised : (x : Result Axis Refusal) (c : Meaning) (r : Result Processor Refusal) (d : Meaning) → PoweredAs x c r d → Promised x c r d

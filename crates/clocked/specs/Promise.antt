@@ -14,7 +14,7 @@ use Rattle.clocked.specs.Entries.{Answers, DidRow, Took, refusal_of, refusal_due
 use Rattle.clocked.specs.Refusals.{is_at_rest}
 use Rattle.clocked.specs.Comparison.{compared, clocks_since, begun_in, waits_since, key_out}
 use Rattle.clocked.specs.Processor.{shown}
-use Rattle.clocked.specs.Runs.{Config, Event, clocked, reset, drawn, set, given, Entry, events, Run, Made}
+use Rattle.clocked.specs.Runs.{Config, Call, call_of, Event, clocked, reset, drawn, set, given, Entry, events, Run, Made}
 
 -- Agreement with the comparison machine after the entry e, which came after the entries es.
 pub record Agreement (first : State) (es : List Entry) (e : Entry) : Type 0 where
@@ -92,6 +92,17 @@ Progress M start = (c : Config) (es : List Entry) → Run M start es c → Runni
     (d : Config) (fs : List Entry) → Run M c fs d → AreClocks (events fs) →
     length fs ≡ 10 + 3 * c.card.patience → some_ends (events fs) ≡ true
 
+-- An entry of M that the call x makes at the configuration c.
+pub record Answered (M : Entry → Type 0) (c : Config) (x : Call) : Type 0 where
+  pub entry : Entry
+  pub made : M entry
+  pub here : entry.before ≡ c
+  pub of_call : call_of entry.event ≡ x
+
+-- Every run goes on with whatever call: what is promised of all runs is promised of some.
+abbrev pub Answering : (Entry → Type 0) → Config → Type 0
+Answering M start = (c : Config) (es : List Entry) → Run M start es c → (x : Call) → Answered M c x
+
 pub record Promise (M : Entry → Type 0) (first : State) (start : Config) : Type 0 where
   pub starts : Starts first start
   pub agreement : Always M start (Agreement first)
@@ -99,6 +110,7 @@ pub record Promise (M : Entry → Type 0) (first : State) (start : Config) : Typ
   pub refusing : Always M start Refusing
   pub keyed : Always M start Keyed
   pub progress : Progress M start
+  pub answering : Answering M start
 
 -- Of power-up with the axis a on the card c: the processor and the card that it hands back keep the promise, compared with
 -- the instruction machine's state at power-up.

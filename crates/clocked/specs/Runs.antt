@@ -23,6 +23,21 @@ pub data Event : Type 0 where
   set : Key → ℕ → ℕ → Result (Unit {0}) Refusal → Event
   given : Key → Result (Unit {0}) NotTaken → Event
 
+-- A call with its arguments.
+pub data Call : Type 0 where
+  clock : Call
+  reset_it : Call
+  draw : Call
+  set_register : Key → ℕ → ℕ → Call
+  give_back : Key → Call
+
+abbrev pub call_of : Event → Call
+call_of (clocked r) = clock
+call_of (reset r) = reset_it
+call_of (drawn r) = draw
+call_of (set k n w r) = set_register k n w
+call_of (given k r) = give_back k
+
 pub record Entry : Type 0 where
   pub before : Config
   pub event : Event
