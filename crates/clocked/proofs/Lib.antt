@@ -1,4 +1,3 @@
-mod Refusing
 mod Invariant
 mod Gives
 mod Steps
