@@ -115,13 +115,13 @@ impl Processor {
     }
 
     // Ends the instruction, with PC at the next one.
-    fn finish(&mut self, pc: u32) -> Answer
-        ensures answer { result ≡ Ended Done }
+    fn finish(&mut self, outcome: Outcome, pc: u32) -> Answer
+        ensures answer { result ≡ Ended outcome }
         ensures after { self.new ≡ going_at Fetch0 pc self.old }
     {
         self.pc = pc;
         self.control = Control::Fetch0;
-        Answer::Ended(Outcome::Done)
+        Answer::Ended(outcome)
     }
 
     fn decode(&mut self, instruction: Instruction) -> Answer
@@ -137,12 +137,9 @@ impl Processor {
                 self.go(Control::DispFetch0(instruction))
             }
             (Class::Branch(Form::Quick) | Class::BranchIndexed(Form::Quick), false) => {
-                self.finish(self.pc)
+                self.finish(Outcome::Done, self.pc)
             }
-            (Class::Unknown, _) => {
-                self.control = Control::Fetch0;
-                Answer::Ended(Outcome::Ignored)
-            }
+            (Class::Unknown, _) => self.finish(Outcome::Ignored, self.pc),
             _ => self.go(Control::Execute0(instruction, instruction.immediate())),
         }
     }
@@ -179,10 +176,7 @@ impl Processor {
             Class::BranchIndexed(form) => {
                 self.branch(form, instruction, first.wrapping_add(displacement))
             }
-            Class::Unknown => {
-                self.control = Control::Fetch0;
-                Answer::Ended(Outcome::Ignored)
-            }
+            Class::Unknown => self.finish(Outcome::Ignored, self.pc),
         }
     }
 
@@ -197,7 +191,7 @@ impl Processor {
             word,
         });
         self.flags = Flags { v, n, z };
-        self.finish(self.pc)
+        self.finish(Outcome::Done, self.pc)
     }
 
     // To the target, or past a displacement that was not read.
@@ -207,9 +201,9 @@ impl Processor {
             (taken_by instruction.mask self.old.flags) form target self.old).1 }
     {
         match (instruction.mask.taken(self.flags), form) {
-            (true, _) => self.finish(target),
-            (false, Form::Long) => self.finish(self.pc.wrapping_add(1)),
-            (false, Form::Quick) => self.finish(self.pc),
+            (true, _) => self.finish(Outcome::Done, target),
+            (false, Form::Long) => self.finish(Outcome::Done, self.pc.wrapping_add(1)),
+            (false, Form::Quick) => self.finish(Outcome::Done, self.pc),
         }
     }
 
@@ -221,7 +215,7 @@ impl Processor {
         if let Access::Load(_, register) = access {
             self.pending = Some(Pending { register, word });
         }
-        self.finish(self.pc)
+        self.finish(Outcome::Done, self.pc)
     }
 
     // Halts with PC back at the instruction.
@@ -237,9 +231,7 @@ impl Processor {
             cause: why.cause,
             origin: why.origin,
         });
-        self.pc = self.start;
-        self.control = Control::Fetch0;
-        Answer::Ended(Outcome::Halted)
+        self.finish(Outcome::Halted, self.start)
     }
 }
 
