@@ -1,5 +1,5 @@
 -- Each wrong machine has a run by which a part of the promise fails.
-use Rattle.std.proofs.Common.{◌≡◌, ℕ, zero, suc, Bool, false, true, ◌||◌, ◌+◌, ◌*◌, List, [], ◌∷◌, length, replicate, get_or, Ok, Err, Option, Some, None, Result, refl, sym, ap, ◌∙◌, subst, arith}
+use Rattle.std.proofs.Common.{◌≡◌, ℕ, zero, suc, Bool, false, true, ◌||◌, is_some, ◌+◌, ◌*◌, List, [], ◌∷◌, length, replicate, get_or, Ok, Err, Option, Some, None, Result, refl, sym, ap, ◌∙◌, subst, arith}
 use Rattle.refusal.specs.declared.Refusal.{Refusal}
 use Rattle.refusal.specs.declared.Refusal.TheVariants as refused
 use Rattle.card.specs.declared.transfer.Direction.TheVariants.{Read}
@@ -30,8 +30,8 @@ use Rattle.clocked.specs.Refusals.{when_transfer}
 use Rattle.clocked.specs.Control.{named}
 use Rattle.clocked.specs.Changes.{going, noting, settled, restarting}
 use Rattle.clocked.specs.Processor.{shown}
-use Rattle.clocked.specs.Promise.{Timing, Agreement, Counted, Refusing, Always, Starts, Running, Progress, AreClocks, ends, some_ends}
-use Rattle.clocked.specs.Runs.{Config, clocked, reset, Entry, events, Run, none, more}
+use Rattle.clocked.specs.Promise.{Timing, Agreement, Counted, Refusing, Always, Starts, Running, Progress, AreClocks, some_ends}
+use Rattle.clocked.specs.Runs.{Config, outcome_of, clocked, reset, Entry, events, Run, none, more}
 use Rattle.clocked.specs.Table.{row_of}
 use Rattle.clocked.specs.Wrong.{Fails, FailsTiming, FailsProgress, FailsAgreement, Refused, WorksAtOnce, works, WaitsUnasked, waits, MakesUpItsCount, finishes, HaltsBefore, halts, NeverUsesTheCard, from_fetch0, from_fetch1, StaysInFetch0, stays, RefusesEveryClock, refuses, entry, ticks, with, worked, resets, idles, summing, sums}
 use Rattle.clocked.proofs.Resting.{running_refusal}
@@ -54,12 +54,12 @@ module _ (M : Entry → Type 0) (c : Config) (r : Result Tick Refusal) (m : M (e
   as_long zero = refl
   as_long (suc n) = ap suc (as_long n)
 
-  none_ends : ends (clocked r) ≡ false → (n : ℕ) → some_ends (events (again n)) ≡ false
+  none_ends : is_some (outcome_of (clocked r)) ≡ false → (n : ℕ) → some_ends (events (again n)) ≡ false
   none_ends e zero = refl
   none_ends e (suc n) = ap (λ (b : Bool). b || some_ends (events (again n))) e ∙ none_ends e n
 
   -- A running axis that does so makes no progress.
-  stuck : {start : Config} {es : List Entry} → Run M start es c → Running c → ends (clocked r) ≡ false → Progress M start → ⊥
+  stuck : {start : Config} {es : List Entry} → Run M start es c → Running c → is_some (outcome_of (clocked r)) ≡ false → Progress M start → ⊥
   stuck before runs e progress =
       let n : ℕ = 10 + 3 * c.card.patience in
       never_both (some_ends (events (again n))) (none_ends e n)

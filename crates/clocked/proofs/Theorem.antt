@@ -17,8 +17,8 @@ use Rattle.clocked.specs.Refusals.{clock_refusal, draw_refusal, fits}
 use Rattle.clocked.specs.Comparison.{compared, compared_by, clocks_since, waits_since, key_out, out_after}
 use Rattle.clocked.specs.Entries.{KeyFits}
 use Rattle.clocked.specs.Processor.{fresh}
-use Rattle.clocked.specs.Promise.{Promise, Promised, Agreement, Timing, Refusing, Keyed, Running, AreClocks, ends, ends_by, some_ends}
-use Rattle.clocked.specs.Runs.{Config, Event, clocked, reset, drawn, set, given, Entry, events, Run, none, more, Made, MadeBy}
+use Rattle.clocked.specs.Promise.{Promise, Promised, Agreement, Timing, Refusing, Keyed, Running, AreClocks, some_ends}
+use Rattle.clocked.specs.Runs.{Config, outcome_by, outcome_of, Event, clocked, reset, drawn, set, given, Entry, events, Run, none, more, Made, MadeBy}
 use Rattle.clocked.proofs.Invariant.{At, Inv, clocks_left, μ}
 use Rattle.clocked.proofs.Answering.{answers}
 use Rattle.clocked.proofs.Gives.{FallsBy}
@@ -101,7 +101,7 @@ accepts : (A : State) (n w : ℕ) (p : Processor) (c : Meaning) → Inv A n w p 
 accepts A n w p c at unhalted unlocked = running_refusal p c unhalted unlocked ∙ due p.control A n w p c at
 
 -- A clock that does not end the instruction leaves the comparison machine, and one clock less.
-goes_on : (x : Answer) (u v : ℕ) (A : State) → ends_by x ≡ false → FallsBy x u v → (v + 1 ≤ u) × (compared_by x A ≡ A)
+goes_on : (x : Answer) (u v : ℕ) (A : State) → is_some (outcome_by x) ≡ false → FallsBy x u v → (v + 1 ≤ u) × (compared_by x A ≡ A)
 goes_on On u v A quiet h = (h, refl)
 goes_on Waiting u v A quiet h = (h, refl)
 goes_on (Ended o) u v A quiet h = elim (never_both true quiet refl) [ ]
@@ -144,7 +144,7 @@ pub record Going (c : Config) (count : ℕ) (d : Config) : Type 0 where
   pub running : Running d
   pub less : μ d.processor d.card + count ≤ μ c.processor c.card
 
-one_more : (c b a : Config) (count : ℕ) (e : Event) (rest : List Event) → Going c count b → MadeBy e b a → AreClocks (e ∷ rest) → ends e ≡ false →
+one_more : (c b a : Config) (count : ℕ) (e : Event) (rest : List Event) → Going c count b → MadeBy e b a → AreClocks (e ∷ rest) → is_some (outcome_of e) ≡ false →
     Going c (count + 1) a
 one_more c b a count (clocked (Ok t)) rest g m clocks quiet =
     let f = follows g.state g.clocks g.waits b.processor b.card g.inv (clocked (Ok t)) a m in
@@ -184,7 +184,7 @@ module _ (c : Config) (A : State) (n w : ℕ) (at : Inv A n w c.processor c.card
   going : {fs : List Entry} {d : Config} → Run Made c fs d → AreClocks (events fs) → some_ends (events fs) ≡ false → Going c (length fs) d
   going none clocks quiet = record { state = A; clocks = n; waits = w; inv = at; running = runs; less = omega arith }
   going (more e es r m) clocks quiet =
-      let both = neither (ends e.event) (some_ends (events es)) quiet in
+      let both = neither (is_some (outcome_of e.event)) (some_ends (events es)) quiet in
       let g = going r (tail_clocks e.event (events es) clocks) both.1 in
       subst (λ (x : ℕ). Going c x e.after) (omega arith)
       (one_more c e.before e.after (length es) e.event (events es) g m clocks both.0)

@@ -8,29 +8,27 @@ use Rattle.machine.specs.declared.axis.Axis.{Axis}
 use Rattle.machine.specs.State.{State, powered_up}
 use Rattle.clocked.specs.declared.control.Control.TheVariants.{Fetch0}
 use Rattle.clocked.specs.declared.processor.Processor.{Processor}
-use Rattle.clocked.specs.declared.tick.Answer.{Answer}
-use Rattle.clocked.specs.declared.tick.Answer.TheVariants.{On, Waiting, Ended}
 use Rattle.clocked.specs.Entries.{Answers, DidRow, Took, refusal_of, refusal_due, Unchanged, KeyStays, KeyFits}
 use Rattle.clocked.specs.Refusals.{is_at_rest}
 use Rattle.clocked.specs.Comparison.{compared, clocks_since, begun_in, waits_since, key_out}
 use Rattle.clocked.specs.Processor.{shown}
-use Rattle.clocked.specs.Runs.{Config, Call, call_of, Event, clocked, reset, drawn, set, given, Entry, events, Run, Made}
+use Rattle.clocked.specs.Runs.{Config, Call, call_of, outcome_of, tick_of, Event, clocked, reset, drawn, set, given, Entry, events, Run, Made}
 
 -- Agreement with the comparison machine after the entry e, which came after the entries es.
 pub record Agreement (first : State) (es : List Entry) (e : Entry) : Type 0 where
   -- at a boundary or a halt, the axis shows what the comparison machine has
   pub shows : is_at_rest e.after.processor ≡ true →
       shown e.after.processor e.after.card.map ≡ compared first (events (e ∷ es))
-  pub answers : Answers e.event (compared first (events es))
+  pub answers : Answers (outcome_of e.event) (compared first (events es))
   -- halted exactly while the comparison machine has a fault
   pub halted : is_some e.after.processor.fault ≡ is_some (compared first (events (e ∷ es))).fault
 
 -- Timing: a finished instruction took its own count and its waits, and an accepted clock did its state's row.
 abbrev pub Counted : State → List Entry → Entry → Type 0
-Counted first es e = Took e.event (compared first (events es)) (clocks_since (events es)) (begun_in e + waits_since es)
+Counted first es e = Took (outcome_of e.event) (compared first (events es)) (clocks_since (events es)) (begun_in e + waits_since es)
 
 pub record Timing (first : State) (es : List Entry) (e : Entry) : Type 0 where
-  pub row : DidRow e.event e.before e.after
+  pub row : DidRow (tick_of e.event) e.before e.after
   pub counted : Counted first es e
 
 -- A call is refused exactly when it is due, and then changes nothing.
@@ -61,23 +59,10 @@ AreClocks (drawn r ∷ es) = ⊥
 AreClocks (set k n w r ∷ es) = ⊥
 AreClocks (given k r ∷ es) = ⊥
 
--- Whether a call ended an instruction: it answered done, ignored or halted.
-abbrev pub ends_by : Answer → Bool
-ends_by On = false
-ends_by Waiting = false
-ends_by (Ended o) = true
-
-abbrev pub ends : Event → Bool
-ends (clocked (Ok t)) = ends_by t.answer
-ends (clocked (Err e)) = false
-ends (reset r) = false
-ends (drawn r) = false
-ends (set k n w r) = false
-ends (given k r) = false
-
+-- Whether one of these calls ended an instruction: it answered done, ignored or halted.
 abbrev pub some_ends : List Event → Bool
 some_ends [] = false
-some_ends (e ∷ es) = ends e || some_ends es
+some_ends (e ∷ es) = is_some (outcome_of e) || some_ends es
 
 -- The start: a boundary, the key in, no transfer in being, and what the comparison machine starts with.
 pub record Starts (first : State) (start : Config) : Type 0 where
