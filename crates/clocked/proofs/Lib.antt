@@ -1,3 +1,4 @@
+mod Refusing
 mod Invariant
 mod Gives
 mod Steps

@@ -6,7 +6,7 @@ ghost use Rattle.machine.specs.declared.machine.Outcome.TheVariants.{Done, Halte
 ghost use Rattle.machine.specs.State.{plus};
 ghost use Rattle.clocked.specs.declared.control.Control.TheVariants.{Fetch0, Fetch1};
 ghost use Rattle.clocked.specs.declared.tick.Answer.TheVariants.{On, Ended};
-ghost use Rattle.clocked.specs.Advance.{PolledFor};
+ghost use Rattle.clocked.specs.Advance.{Advanced, PolledFor};
 ghost use Rattle.clocked.specs.Calls.{Clocked};
 ghost use Rattle.clocked.specs.Control.{reads_at};
 ghost use Rattle.clocked.specs.Changes.{going, going_at, noting, settled, halting};
@@ -25,6 +25,7 @@ use refusal::Refusal;
 impl Processor {
     // One clock. Refused, with nothing changed, while the key is out, if the processor has halted, or if the card has a
     // transfer in being where one begins, or none where one is polled.
+    #[tactic(auto, using(crate::proofs::Refusing::refused_clock))]
     pub fn clock<C: Card>(&mut self, card: &mut C) -> Result<Tick, Refusal>
         ensures { Clocked self.old (C.Cells.meaning card.old)
             result self.new (C.Cells.meaning card.new) }
@@ -36,6 +37,16 @@ impl Processor {
             return Err(Refusal::Halted);
         }
         let state = self.state();
+        let answer = self.advance(card)?;
+        Ok(Tick { state, answer })
+    }
+
+    // Matches the control state and what the card answers where it is polled. Apart from the refusals above, since a goal that has
+    // both takes the search for proofs to its limits.
+    fn advance<C: Card>(&mut self, card: &mut C) -> Result<Answer, Refusal>
+        ensures { Advanced self.old (C.Cells.meaning card.old)
+            result self.new (C.Cells.meaning card.new) }
+    {
         let answer = match (self.control, self.poll(card)?) {
             (Control::Fetch0, _) => self.fetch(),
             (Control::Fetch1, _) => {
@@ -73,7 +84,7 @@ impl Processor {
                 Answer::Waiting
             }
         };
-        Ok(Tick { state, answer })
+        Ok(answer)
     }
 
     // The end of the transfer in a state that polls, if it ends now; the other states do not ask.
