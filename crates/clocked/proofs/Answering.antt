@@ -16,11 +16,11 @@ use Rattle.clocked.specs.declared.processor.Processor.{Processor}
 use Rattle.clocked.specs.declared.tick.Answer.{Answer}
 use Rattle.clocked.specs.declared.tick.Answer.TheVariants.{On, Waiting, Ended}
 use Rattle.clocked.specs.Calls.{Did, Ends, Polls, PollsFrom, ClockedUnless, ResetUnless, DrawnUnless, SetUnless, GivenUnless}
-use Rattle.clocked.specs.Changes.{settled, halting, restarting, locking, setting}
+use Rattle.clocked.specs.Changes.{written_back, halting, restarting, locking, setting}
 use Rattle.clocked.specs.Control.{named}
 use Rattle.clocked.specs.Promise.{Answered}
 use Rattle.clocked.specs.Refusals.{when_halted, when_transfer, clock_refusal, reset_refusal, draw_refusal, key_refusal}
-use Rattle.clocked.specs.Runs.{Config, Call, call_of, clock, reset_it, draw, set_register, give_back, clocked, reset, drawn, set, given, Made, MadeBy, Event}
+use Rattle.clocked.specs.Runs.{Config, Call, call_of, to_clock, to_reset, to_draw, to_set, to_give_back, clocked, reset, drawn, set, given, Made, MadeBy, Event}
 use Rattle.clocked.specs.Table.{Move, Row, moves, begins, polls, row_of}
 use Rattle.clocked.proofs.Calling.{no_lock}
 use Rattle.clocked.proofs.Steps.{some_none}
@@ -65,7 +65,7 @@ module _ (p : Processor) (c : Meaning) where
 
   clock_answers : (x : Option Refusal) → clock_refusal p c ≡ x →
       ((r : Result Tick Refusal) (q : Processor) (d : Meaning) → ClockedUnless x p c r q d → MadeBy (clocked r) (config p c) (config q d)) →
-      Answered Made (config p c) clock
+      Answered Made (config p c) to_clock
   clock_answers (Some e) is made = gives (clocked (Err e)) p c (made (Err e) p c (refl, refl, refl))
   clock_answers None is made =
       let free = no_lock p.locked _ is in
@@ -76,36 +76,36 @@ module _ (p : Processor) (c : Meaning) where
 
   reset_answers : (x : Option Refusal) →
       ((r : Result (Unit {0}) Refusal) (q : Processor) (d : Meaning) → ResetUnless x p c r q d → MadeBy (reset r) (config p c) (config q d)) →
-      Answered Made (config p c) reset_it
+      Answered Made (config p c) to_reset
   reset_answers (Some e) made = gives (reset (Err e)) p c (made (Err e) p c (refl, refl, refl))
   reset_answers None made =
-      gives (reset (Ok tt)) (restarting (settled p)) (idle c) (made (Ok tt) (restarting (settled p)) (idle c) (refl, refl, refl))
+      gives (reset (Ok tt)) (restarting (written_back p)) (idle c) (made (Ok tt) (restarting (written_back p)) (idle c) (refl, refl, refl))
 
   draw_answers : (x : Option Refusal) →
       ((r : Result Key Refusal) (q : Processor) → DrawnUnless x p r q → MadeBy (drawn r) (config p c) (config q c)) →
-      Answered Made (config p c) draw
+      Answered Made (config p c) to_draw
   draw_answers (Some e) made = gives (drawn (Err e)) p c (made (Err e) p (refl, refl))
   draw_answers None made =
       let k : Key = record { axis = axis_number p.axis } in
-      gives (drawn (Ok k)) (locking true (settled p)) c (made (Ok k) (locking true (settled p)) (refl, refl))
+      gives (drawn (Ok k)) (locking true (written_back p)) c (made (Ok k) (locking true (written_back p)) (refl, refl))
 
   set_answers : (k : Key) (n w : ℕ) (x : Option Refusal) →
       ((r : Result (Unit {0}) Refusal) (q : Processor) → SetUnless x p n w r q → MadeBy (set k n w r) (config p c) (config q c)) →
-      Answered Made (config p c) (set_register k n w)
+      Answered Made (config p c) (to_set k n w)
   set_answers k n w (Some e) made = gives (set k n w (Err e)) p c (made (Err e) p (refl, refl))
   set_answers k n w None made = gives (set k n w (Ok tt)) (setting n w p) c (made (Ok tt) (setting n w p) (refl, refl))
 
   given_answers : (k : Key) (x : Option Refusal) →
       ((r : Result (Unit {0}) NotTaken) (q : Processor) → GivenUnless x p k r q → MadeBy (given k r) (config p c) (config q c)) →
-      Answered Made (config p c) (give_back k)
+      Answered Made (config p c) (to_give_back k)
   given_answers k (Some e) made =
       let r : NotTaken = record { key = k; refusal = e } in
       gives (given k (Err r)) p c (made (Err r) p (refl, refl))
   given_answers k None made = gives (given k (Ok tt)) (locking false p) c (made (Ok tt) (locking false p) (refl, refl))
 
 pub answers : (c : Config) (x : Call) → Answered Made c x
-answers c clock = clock_answers c.processor c.card (clock_refusal c.processor c.card) refl (λ r q d h. h)
-answers c reset_it = reset_answers c.processor c.card (reset_refusal c.processor) (λ r q d h. h)
-answers c draw = draw_answers c.processor c.card (draw_refusal c.processor) (λ r q h. (h, refl))
-answers c (set_register k n w) = set_answers c.processor c.card k n w (key_refusal k c.processor) (λ r q h. (h, refl))
-answers c (give_back k) = given_answers c.processor c.card k (key_refusal k c.processor) (λ r q h. (h, refl))
+answers c to_clock = clock_answers c.processor c.card (clock_refusal c.processor c.card) refl (λ r q d h. h)
+answers c to_reset = reset_answers c.processor c.card (reset_refusal c.processor) (λ r q d h. h)
+answers c to_draw = draw_answers c.processor c.card (draw_refusal c.processor) (λ r q h. (h, refl))
+answers c (to_set k n w) = set_answers c.processor c.card k n w (key_refusal k c.processor) (λ r q h. (h, refl))
+answers c (to_give_back k) = given_answers c.processor c.card k (key_refusal k c.processor) (λ r q h. (h, refl))

@@ -70,7 +70,7 @@ module _ (A : State) (n w : ℕ) (i : Instruction) (p : Processor) (c : Meaning)
         }
 
     finishing : (o : Outcome) → executed_by k t i O ≡ (o, jump O (plus p.start 1)) →
-        (n + 1 ≡ count_of A + (begun c.transfer c.transfer + w) → Took (Some o) A n (begun c.transfer c.transfer + w)) →
+        (n + 1 ≡ count_of A + (w + begun c.transfer c.transfer) → Took (Some o) A n (w + begun c.transfer c.transfer)) →
         clocks_for k t ≡ 4 → Gives A n w (Decode i) c (Ended o) (going Fetch0 p) c
     finishing o same took clocks =
         let none = begun_same c.transfer in

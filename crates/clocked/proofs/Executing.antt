@@ -77,7 +77,7 @@ module _ (A : State) (n w : ℕ) (i : Instruction) (d : ℕ) (p : Processor) (c 
     -- To the end.
     finishing : (o : Outcome) (u : State) (q : Processor) → q.control ≡ Fetch0 → q.locked ≡ p.locked → last k ≡ 1 →
         resumed k t i O d ≡ (o, u) → u ≡ shown q c.map →
-        (n + 1 ≡ count_of A + (begun c.transfer c.transfer + w) → Took (Some o) A n (begun c.transfer c.transfer + w)) →
+        (n + 1 ≡ count_of A + (w + begun c.transfer c.transfer) → Took (Some o) A n (w + begun c.transfer c.transfer)) →
         Gives A n w (Execute0 i d) c (Ended o) q c
     finishing o u q boundary lock clocks same is took =
         let none = begun_same c.transfer in

@@ -1,5 +1,5 @@
 -- Each wrong machine has a run by which a part of the promise fails.
-use Rattle.std.proofs.Common.{◌≡◌, ℕ, zero, suc, Bool, false, true, ◌||◌, is_some, ◌+◌, ◌*◌, List, [], ◌∷◌, length, replicate, get_or, Ok, Err, Option, Some, None, Result, refl, sym, ap, ◌∙◌, subst, arith}
+use Rattle.std.proofs.Common.{◌≡◌, ℕ, zero, suc, Bool, false, true, ◌||◌, is_some, ◌+◌, ◌*◌, List, [], ◌∷◌, length, replicate, get_or, Ok, Err, Option, Some, Result, refl, sym, ap, ◌∙◌, subst, arith}
 use Rattle.refusal.specs.declared.Refusal.{Refusal}
 use Rattle.refusal.specs.declared.Refusal.TheVariants as refused
 use Rattle.card.specs.declared.transfer.Direction.TheVariants.{Read}
@@ -12,10 +12,9 @@ use Rattle.isa.specs.declared.opcodes.Form.TheVariants.{Long, Quick}
 use Rattle.isa.specs.Branch.{taken_by}
 use Rattle.isa.specs.Fields.{instruction_of}
 use Rattle.isa.specs.Opcodes.{class_of}
-use Rattle.machine.specs.declared.axis.Axis.TheVariants.{One}
 use Rattle.machine.specs.declared.machine.Outcome.{Outcome}
 use Rattle.machine.specs.declared.machine.Outcome.TheVariants.{Done, Halted}
-use Rattle.machine.specs.State.{State, powered_up}
+use Rattle.machine.specs.State.{State}
 use Rattle.machine.specs.Step.{step}
 use Rattle.clocked.specs.declared.control.Control.{Control}
 use Rattle.clocked.specs.declared.control.Control.TheVariants as control
@@ -28,12 +27,12 @@ use Rattle.clocked.specs.Calls.{Did}
 use Rattle.clocked.specs.Comparison.{begun, clocks_for, count_fetched, count_of}
 use Rattle.clocked.specs.Refusals.{when_transfer}
 use Rattle.clocked.specs.Control.{named}
-use Rattle.clocked.specs.Changes.{going, noting, settled, restarting}
+use Rattle.clocked.specs.Changes.{going, noting, written_back, restarting}
 use Rattle.clocked.specs.Processor.{shown}
-use Rattle.clocked.specs.Promise.{Timing, Agreement, Counted, Refusing, Always, Starts, Running, Progress, AreClocks, some_ends}
+use Rattle.clocked.specs.Promise.{Timing, Counted, Refusing, Always, Starts, Running, Progress, AreClocks, some_ends}
 use Rattle.clocked.specs.Runs.{Config, outcome_of, clocked, reset, Entry, events, Run, none, more}
 use Rattle.clocked.specs.Table.{row_of}
-use Rattle.clocked.specs.Wrong.{Fails, FailsTiming, FailsProgress, FailsAgreement, Refused, WorksAtOnce, works, WaitsUnasked, waits, MakesUpItsCount, finishes, HaltsBefore, halts, NeverUsesTheCard, from_fetch0, from_fetch1, StaysInFetch0, stays, RefusesEveryClock, refuses, entry, ticks, with, worked, resets, idles, summing, sums}
+use Rattle.clocked.specs.Wrong.{Fails, FailsTiming, FailsProgress, FailsAgreement, Refuted, WorksAtOnce, works, WaitsUnasked, waits, MakesUpItsCount, finishes, HaltsBefore, halts, NeverUsesTheCard, from_fetch0, from_fetch1, StaysInFetch0, stays, RefusesEveryClock, refuses, entry, ticks, with, worked, resets, idles, summing, sums}
 use Rattle.clocked.proofs.Resting.{running_refusal}
 use Rattle.clocked.proofs.Steps.{some_none, never_both, begun_same}
 
@@ -91,7 +90,7 @@ works_broken h =
     let a : Config = worked (step (shown summing.processor sums)).1 summing in
     let i : Instruction = instruction_of 0x10050001 in
     let b : Config = with a (going (control.Decode i) a.processor) in
-    let c : Config = record { processor = restarting (settled b.processor); card = idle b.card } in
+    let c : Config = record { processor = restarting (written_back b.processor); card = idle b.card } in
     let e : Entry = entry summing (ticks Fetch0 On) a in
     let f : Entry = entry a (ticks Fetch1 On) b in
     let g : Entry = entry b (reset (Ok tt)) c in
@@ -130,7 +129,7 @@ never_counted (Err f) s e = omega arith
 
 counts_broken : Fails (λ s c. Always MakesUpItsCount c (Counted s))
 counts_broken s c at h =
-    let k : 1 ≡ count_of s + (begun c.card.transfer c.card.transfer + 0) = h _ [] (more _ [] none (finishes c)) in
+    let k : 1 ≡ count_of s + (0 + begun c.card.transfer c.card.transfer) = h _ [] (more _ [] none (finishes c)) in
     let b = begun_same c.card.transfer in
     never_counted (end_of Read (s.map s.pc)) s (omega (arith, k, b))
 
@@ -153,7 +152,7 @@ fetch_progress s c at h = stuck StaysInFetch0 c _ (stays c) none at.running refl
 -- The second clock is in fetch_1, where the table has it begin a transfer.
 module _ (c : Config) where
   abbrev second : Config
-  second = with c (noting control.Fetch1 (settled c.processor))
+  second = with c (noting control.Fetch1 (written_back c.processor))
 
   to_second : Run NeverUsesTheCard c (entry c (ticks Fetch0 On) second ∷ []) second
   to_second = more _ [] none (from_fetch0 c)
@@ -181,7 +180,7 @@ refuses_broken r s c at h =
 refuses_progress : (r : Refusal) → FailsProgress (RefusesEveryClock r)
 refuses_progress r s c at h = stuck (RefusesEveryClock r) c (Err r) (refuses r c) none at.running refl h
 
-pub refuted : Refused
+pub refuted : Refuted
 refuted =
     record {
       works = works_broken;

@@ -203,7 +203,7 @@ module _ (c : Config) (A : State) (n w : ℕ) (at : Inv A n w c.processor c.card
           let never : ⊥ = omega arith in elim never [ ]
 
 start_at : (a : Axis) (c : Meaning) → Inv (powered_up a c.map) 0 0 (fresh a) (idle c)
-start_at a c = record { agrees = refl; idle = refl; clocks = refl; waits = refl; settled = λ l. refl }
+start_at a c = record { agrees = refl; idle = refl; clocks = refl; waits = refl; stored = λ l. refl }
 
 holds : (a : Axis) (c : Meaning) → Promise Made (powered_up a c.map) (record { processor = fresh a; card = idle c })
 holds a c =

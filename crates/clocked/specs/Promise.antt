@@ -25,7 +25,7 @@ pub record Agreement (first : State) (es : List Entry) (e : Entry) : Type 0 wher
 
 -- Timing: a finished instruction took its own count and its waits, and an accepted clock did its state's row.
 abbrev pub Counted : State → List Entry → Entry → Type 0
-Counted first es e = Took (outcome_of e.event) (compared first (events es)) (clocks_since (events es)) (begun_in e + waits_since es)
+Counted first es e = Took (outcome_of e.event) (compared first (events es)) (clocks_since (events es)) (waits_since es + begun_in e)
 
 pub record Timing (first : State) (es : List Entry) (e : Entry) : Type 0 where
   pub row : DidRow (tick_of e.event) e.before e.after

@@ -50,18 +50,18 @@ outcome_of e = outcome_in (tick_of e)
 
 -- A call with its arguments.
 pub data Call : Type 0 where
-  clock : Call
-  reset_it : Call
-  draw : Call
-  set_register : Key → ℕ → ℕ → Call
-  give_back : Key → Call
+  to_clock : Call
+  to_reset : Call
+  to_draw : Call
+  to_set : Key → ℕ → ℕ → Call
+  to_give_back : Key → Call
 
 abbrev pub call_of : Event → Call
-call_of (clocked r) = clock
-call_of (reset r) = reset_it
-call_of (drawn r) = draw
-call_of (set k n w r) = set_register k n w
-call_of (given k r) = give_back k
+call_of (clocked r) = to_clock
+call_of (reset r) = to_reset
+call_of (drawn r) = to_draw
+call_of (set k n w r) = to_set k n w
+call_of (given k r) = to_give_back k
 
 pub record Entry : Type 0 where
   pub before : Config
@@ -76,7 +76,7 @@ pub data Run (M : Entry → Type 0) (start : Config) : List Entry → Config →
   none : Run M start [] start
   more : (e : Entry) (es : List Entry) → Run M start es e.before → M e → Run M start (e ∷ es) e.after
 
--- What the five calls of a processor make: the relations of their own contracts.
+-- What the five calls of a processor make: the relations of their own contracts. The last three are not lent the card.
 abbrev pub MadeBy : Event → Config → Config → Type 0
 MadeBy (clocked r) b a = Clocked b.processor b.card r a.processor a.card
 MadeBy (reset r) b a = Reset b.processor b.card r a.processor a.card

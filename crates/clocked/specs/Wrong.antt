@@ -19,7 +19,7 @@ use Rattle.clocked.specs.declared.processor.Processor.{Processor}
 use Rattle.clocked.specs.declared.tick.Answer.{Answer}
 use Rattle.clocked.specs.declared.tick.Answer.TheVariants.{On, Waiting, Ended}
 use Rattle.clocked.specs.Control.{named}
-use Rattle.clocked.specs.Changes.{going, noting, settled, restarting}
+use Rattle.clocked.specs.Changes.{going, noting, written_back, restarting}
 use Rattle.clocked.specs.Processor.{shown, fresh}
 use Rattle.clocked.specs.Promise.{Agreement, Timing, Counted, Refusing, Always, Starts, Progress}
 use Rattle.clocked.specs.Runs.{Config, Event, clocked, reset, Entry}
@@ -58,7 +58,7 @@ pub data WorksAtOnce : Entry → Type 0 where
   works : (c : Config) → WorksAtOnce (entry c (ticks Fetch0 On) (worked (step (shown c.processor c.card.map)).1 c))
   idles : (c : Config) (k : Control) → WorksAtOnce (entry c (ticks (named c.processor.control) On) (with c (going k c.processor)))
   resets : (c : Config) →
-      WorksAtOnce (entry c (reset (Ok tt)) (record { processor = restarting (settled c.processor); card = idle c.card }))
+      WorksAtOnce (entry c (reset (Ok tt)) (record { processor = restarting (written_back c.processor); card = idle c.card }))
 
 -- Answers waiting where it asked nothing.
 pub data WaitsUnasked : Entry → Type 0 where
@@ -75,14 +75,14 @@ pub data HaltsBefore : Entry → Type 0 where
 
 -- Never uses the card: it goes from fetch_0 to fetch_1 and on, with the card as it was.
 pub data NeverUsesTheCard : Entry → Type 0 where
-  from_fetch0 : (c : Config) → NeverUsesTheCard (entry c (ticks Fetch0 On) (with c (noting control.Fetch1 (settled c.processor))))
+  from_fetch0 : (c : Config) → NeverUsesTheCard (entry c (ticks Fetch0 On) (with c (noting control.Fetch1 (written_back c.processor))))
   from_fetch1 : (c : Config) (q : Processor) → NeverUsesTheCard (entry c (ticks Fetch1 On) (with c q))
 
 -- Stays in fetch_0 and answers on.
 pub data StaysInFetch0 : Entry → Type 0 where
   stays : (c : Config) → StaysInFetch0 (entry c (ticks Fetch0 On) c)
 
--- Refuses every clock, as if it had halted or for a transfer.
+-- Refuses every clock with the refusal e.
 pub data RefusesEveryClock : Refusal → Entry → Type 0 where
   refuses : (e : Refusal) (c : Config) → RefusesEveryClock e (entry c (clocked (Err e)) c)
 
@@ -108,7 +108,7 @@ abbrev pub FailsAgreement : (Entry → Type 0) → Type 0
 FailsAgreement M = Always M summing (Agreement (powered_up One sums)) → ⊥
 
 -- Each machine, and the parts of the promise that fail of it, each part by itself.
-pub record Refused : Type 0 where
+pub record Refuted : Type 0 where
   -- by a reset in decode
   pub works : FailsAgreement WorksAtOnce
   pub waits : FailsTiming WaitsUnasked × FailsProgress WaitsUnasked

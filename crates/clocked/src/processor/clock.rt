@@ -9,7 +9,7 @@ ghost use Rattle.clocked.specs.declared.tick.Answer.TheVariants.{On, Ended};
 ghost use Rattle.clocked.specs.Advance.{Advanced, PolledFor};
 ghost use Rattle.clocked.specs.Calls.{Clocked};
 ghost use Rattle.clocked.specs.Control.{reads_at};
-ghost use Rattle.clocked.specs.Changes.{going, going_at, noting, settled, halting};
+ghost use Rattle.clocked.specs.Changes.{going, going_at, noting, written_back, halting};
 ghost use Rattle.clocked.specs.Table.{row_of, decodes, executes, latches, branches, completes};
 
 use super::Processor;
@@ -101,9 +101,9 @@ impl Processor {
     // The boundary: stores a pending result and notes PC as the instruction's address.
     fn fetch(&mut self) -> Answer
         ensures answer { result ≡ On }
-        ensures after { self.new ≡ noting Fetch1 (settled self.old) }
+        ensures after { self.new ≡ noting Fetch1 (written_back self.old) }
     {
-        self.settle();
+        self.write_back();
         self.start = self.pc;
         self.go(Control::Fetch1)
     }
