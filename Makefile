@@ -1,12 +1,12 @@
 # make run    the example scenarios through the bench
-# make test   the C panel's test, the bench's wrong lines, then the proofs, programs and tests (rt ci)
+# make test   the C panel's test, the bench's wrong lines and large images, then the proofs, programs and tests (rt ci)
 # make speed  instructions per second of the bench and of a plain C interpreter
-.PHONY: run test panel-test lines-test speed
+.PHONY: run test panel-test lines-test images-test speed
 
 run: target/bin/bench
 	target/bin/bench examples/count.scenario examples/halt.scenario
 
-test: panel-test lines-test
+test: panel-test lines-test images-test
 	rt ci
 
 panel-test: target/staticlib/libfault_line.a
@@ -14,6 +14,9 @@ panel-test: target/staticlib/libfault_line.a
 
 lines-test: target/bin/bench
 	tests/lines.sh
+
+images-test: target/bin/bench
+	tests/images.sh
 
 speed: target/bin/bench
 	speed/run.sh
