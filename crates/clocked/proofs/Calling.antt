@@ -20,7 +20,7 @@ use Rattle.clocked.specs.Comparison.{compared_after, with_register, clocks_after
 use Rattle.clocked.specs.Changes.{settled, restarting, locking, setting}
 use Rattle.clocked.specs.Processor.{shown, storing}
 use Rattle.clocked.specs.Entries.{Answers, DidRow, Took, refusal_of, refusal_due, Unchanged, KeyStays}
-use Rattle.clocked.specs.Runs.{Config, Event, clocked, reset, drawn, set, given, MadeBy}
+use Rattle.clocked.specs.Runs.{Config, outcome_of, tick_of, Event, clocked, reset, drawn, set, given, MadeBy}
 use Rattle.clocked.specs.Table.{row_of}
 use Rattle.clocked.proofs.Invariant.{At, Inv, Rest, Mid, μ}
 use Rattle.clocked.proofs.Gives.{Gives, FallsBy}
@@ -41,9 +41,9 @@ FallsAfter (given k r) x y = Unit {0}
 
 pub record Follows (A : State) (n w : ℕ) (b : Config) (e : Event) (a : Config) : Type 0 where
   pub inv : Inv (compared_after e A) (clocks_after e n) (waits_after e (begun b.card.transfer a.card.transfer) w) a.processor a.card
-  pub answers : Answers e A
-  pub row : DidRow e b a
-  pub took : Took e A n (begun b.card.transfer a.card.transfer + w)
+  pub answers : Answers (outcome_of e) A
+  pub row : DidRow (tick_of e) b a
+  pub took : Took (outcome_of e) A n (begun b.card.transfer a.card.transfer + w)
   pub refused : refusal_of e ≡ refusal_due e b
   pub unchanged : Unchanged (refusal_of e) b a
   pub stays : KeyStays e
@@ -72,7 +72,7 @@ module _ (A : State) (n w : ℕ) (p : Processor) (c : Meaning) (t : Answer) (q :
   by_state (Execute2 a) e at did = execute2 A n w p c t q d a e at did
 
 -- A call that is not refused has not what it would be refused for.
-no_lock : (l : Bool) (x : Option Refusal) → when_locked l x ≡ None → (l ≡ false) × (x ≡ None)
+pub no_lock : (l : Bool) (x : Option Refusal) → when_locked l x ≡ None → (l ≡ false) × (x ≡ None)
 no_lock false x e = (refl, e)
 no_lock true x e = elim (some_none _ e) [ ]
 
@@ -98,9 +98,9 @@ Silent (set k n w r) = Unit {0}
 Silent (given k r) = Unit {0}
 
 record Silence (A : State) (n w x y : ℕ) (b : Config) (e : Event) (a : Config) : Type 0 where
-  answers : Answers e A
-  row : DidRow e b a
-  took : Took e A n w
+  answers : Answers (outcome_of e) A
+  row : DidRow (tick_of e) b a
+  took : Took (outcome_of e) A n w
   falls : FallsAfter e x y
 
 silence : (A : State) (n w x y : ℕ) (b : Config) (e : Event) (a : Config) → Silent e → Silence A n w x y b e a

@@ -18,7 +18,7 @@ use Rattle.clocked.specs.Calls.{Ends, PollsFrom, waits_left}
 use Rattle.clocked.specs.Comparison.{begun}
 use Rattle.clocked.specs.Changes.{going_at, halting}
 use Rattle.clocked.specs.Processor.{shown, storing}
-use Rattle.clocked.specs.Entries.{TookBy}
+use Rattle.clocked.specs.Entries.{Took}
 use Rattle.clocked.specs.Table.{Move}
 use Rattle.clocked.proofs.Gives.{Gives, given_as}
 use Rattle.clocked.proofs.Polling.{Outcome as Polled, waits, ends, polled, begun_busy}
@@ -33,7 +33,7 @@ module _ (A O S : State) (o : Outcome) (u : State) where
 
 module _ (A : State) (n w : ℕ) (k : Control) (p : Processor) (c : Meaning) (q : Processor) (d : Meaning) (o : Outcome) (u : State) where
   pub ending : q.control ≡ Fetch0 → q.locked ≡ false → d.transfer ≡ None → A ≡ origin p c.map → p.fault ≡ None →
-      running (origin p c.map) ≡ (o, u) → u ≡ shown q d.map → TookBy (Ended o) A n (begun c.transfer d.transfer + w) →
+      running (origin p c.map) ≡ (o, u) → u ≡ shown q d.map → Took (Some o) A n (begun c.transfer d.transfer + w) →
       Gives A n w k c (Ended o) q d
   ending boundary unlocked idle same unhalted left is took =
       let both = compares A (origin p c.map) (shown q d.map) o u same unhalted left is in

@@ -1,4 +1,3 @@
-mod Refusing
 mod Invariant
 mod Gives
 mod Steps
@@ -10,5 +9,6 @@ mod Decoding
 mod Executing
 mod Resting
 mod Calling
+mod Answering
 mod Theorem
 mod Refuted

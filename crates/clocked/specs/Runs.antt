@@ -1,12 +1,15 @@
 -- Runs of an axis: its calls with their arguments and answers, one after the other, refused ones included.
 -- A reader must believe: each call picks up where the last one ended, which is to say that nothing but these five calls
 -- changes the processor, its card or what lies under it.
-use Rattle.std.specs.Prelude.{◌≡◌, ℕ, List, [], ◌∷◌, map, Result}
+use Rattle.std.specs.Prelude.{◌≡◌, ℕ, List, [], ◌∷◌, map, Some, None, Ok, Err, Option, Result}
 use Rattle.refusal.specs.declared.Refusal.{Refusal}
 use Rattle.card.specs.Meaning.{Meaning}
 use Rattle.clocked.specs.declared.key.Key.{Key}
 use Rattle.clocked.specs.declared.key.NotTaken.{NotTaken}
 use Rattle.clocked.specs.declared.processor.Processor.{Processor}
+use Rattle.machine.specs.declared.machine.Outcome.{Outcome}
+use Rattle.clocked.specs.declared.tick.Answer.{Answer}
+use Rattle.clocked.specs.declared.tick.Answer.TheVariants.{On, Waiting, Ended}
 use Rattle.clocked.specs.declared.tick.Tick.{Tick}
 use Rattle.clocked.specs.Calls.{Clocked, Reset, Drawn, Set, Given}
 
@@ -22,6 +25,43 @@ pub data Event : Type 0 where
   drawn : Result Key Refusal → Event
   set : Key → ℕ → ℕ → Result (Unit {0}) Refusal → Event
   given : Key → Result (Unit {0}) NotTaken → Event
+
+-- The tick of an accepted clock; no other event has one.
+abbrev pub tick_of : Event → Option Tick
+tick_of (clocked (Ok t)) = Some t
+tick_of (clocked (Err e)) = None
+tick_of (reset r) = None
+tick_of (drawn r) = None
+tick_of (set k n w r) = None
+tick_of (given k r) = None
+
+-- The outcome of the instruction that an accepted clock ended.
+abbrev pub outcome_by : Answer → Option Outcome
+outcome_by On = None
+outcome_by Waiting = None
+outcome_by (Ended o) = Some o
+
+abbrev pub outcome_in : Option Tick → Option Outcome
+outcome_in None = None
+outcome_in (Some t) = outcome_by t.answer
+
+abbrev pub outcome_of : Event → Option Outcome
+outcome_of e = outcome_in (tick_of e)
+
+-- A call with its arguments.
+pub data Call : Type 0 where
+  clock : Call
+  reset_it : Call
+  draw : Call
+  set_register : Key → ℕ → ℕ → Call
+  give_back : Key → Call
+
+abbrev pub call_of : Event → Call
+call_of (clocked r) = clock
+call_of (reset r) = reset_it
+call_of (drawn r) = draw
+call_of (set k n w r) = set_register k n w
+call_of (given k r) = give_back k
 
 pub record Entry : Type 0 where
   pub before : Config

@@ -48,13 +48,6 @@ impl Processor {
             result (C.Cells.meaning card.new) }
         ensures refused { Refused }
     {
-        Processor::start(axis, card)
-    }
-
-    fn start<C: Card>(axis: u32, card: &mut C) -> Result<Processor, Refusal>
-        ensures { PoweredUp axis (C.Cells.meaning card.old)
-            result (C.Cells.meaning card.new) }
-    {
         let axis = Axis::try_from(axis)?;
         card.cancel();
         Ok(Processor {
