@@ -1,10 +1,10 @@
 # make run    the example scenarios through the bench
 # make test   the C panel's test, the bench's wrong lines and large images, then the proofs, programs and tests (rt ci)
-# make speed  instructions per second of the bench and of a plain C interpreter
+# make speed  instructions and clocks per second of the bench and of plain C
 .PHONY: run test panel-test lines-test images-test speed
 
 run: target/bin/bench
-	target/bin/bench examples/count.scenario examples/halt.scenario
+	target/bin/bench examples/count.scenario examples/halt.scenario examples/clock.scenario
 
 test: panel-test lines-test images-test
 	rt ci
