@@ -1,12 +1,13 @@
 # make run    the example scenarios through the bench
-# make test   the C panel's test, the bench's wrong lines and large images, then the proofs, programs and tests (rt ci)
+# make test   the C panel's test, the bench's wrong lines and large images, the key's wrong uses, then the proofs, programs and
+#             tests (rt ci)
 # make speed  instructions and clocks per second of the bench and of plain C
-.PHONY: run test panel-test lines-test images-test speed
+.PHONY: run test panel-test lines-test images-test key-test speed
 
 run: target/bin/bench
 	target/bin/bench examples/count.scenario examples/halt.scenario examples/clock.scenario
 
-test: panel-test lines-test images-test
+test: panel-test lines-test images-test key-test
 	rt ci
 
 panel-test: target/staticlib/libfault_line.a
@@ -17,6 +18,9 @@ lines-test: target/bin/bench
 
 images-test: target/bin/bench
 	tests/images.sh
+
+key-test:
+	tests/key.sh
 
 speed: target/bin/bench
 	speed/run.sh

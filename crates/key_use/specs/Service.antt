@@ -1,0 +1,21 @@
+-- Registers set with the service key.
+-- A reader must believe: a processor serviced has its pending result stored, then the words in their registers, and its key in.
+use Rattle.std.specs.Prelude.{◌≡◌, ℕ, false, Some, None, Ok, Err, Option, Result}
+use Rattle.refusal.specs.declared.Refusal.{Refusal}
+use Rattle.clocked.specs.declared.processor.Processor.{Processor}
+use Rattle.clocked.specs.Changes.{settled, locking, setting}
+use Rattle.clocked.specs.Refusals.{draw_refusal}
+
+abbrev pub with_register : ℕ → ℕ → Processor → Processor
+with_register n w p = locking false (setting n w (settled p))
+
+abbrev pub with_registers : ℕ × ℕ → ℕ × ℕ → Processor → Processor
+with_registers a b p = locking false (setting b.0 b.1 (setting a.0 a.1 (settled p)))
+
+abbrev pub ServicedUnless : Option Refusal → Processor → Processor → Result (Unit {0}) Refusal → Processor → Type 0
+ServicedUnless (Some e) p s r q = (r ≡ Err e) × (q ≡ p)
+ServicedUnless None p s r q = (r ≡ Ok tt) × (q ≡ s)
+
+-- The processor p is s afterwards; where its key cannot be drawn, it stays as it is.
+abbrev pub Serviced : Processor → Processor → Result (Unit {0}) Refusal → Processor → Type 0
+Serviced p s r q = ServicedUnless (draw_refusal p) p s r q
