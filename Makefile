@@ -1,12 +1,13 @@
 # make run    the example scenarios through the bench
-# make test   the C panel's test, the bench's wrong lines, the key's wrong uses, then the proofs, programs and tests (rt ci)
-# make speed  instructions per second of the bench and of a plain C interpreter
-.PHONY: run test panel-test lines-test key-test speed
+# make test   the C panel's test, the bench's wrong lines and large images, the key's wrong uses, then the proofs, programs and
+#             tests (rt ci)
+# make speed  instructions and clocks per second of the bench and of plain C
+.PHONY: run test panel-test lines-test images-test key-test speed
 
 run: target/bin/bench
-	target/bin/bench examples/count.scenario examples/halt.scenario
+	target/bin/bench examples/count.scenario examples/halt.scenario examples/clock.scenario
 
-test: panel-test lines-test key-test
+test: panel-test lines-test images-test key-test
 	rt ci
 
 panel-test: target/staticlib/libfault_line.a
@@ -14,6 +15,9 @@ panel-test: target/staticlib/libfault_line.a
 
 lines-test: target/bin/bench
 	tests/lines.sh
+
+images-test: target/bin/bench
+	tests/images.sh
 
 key-test:
 	tests/key.sh

@@ -1,12 +1,8 @@
 #!/usr/bin/env bash
-# Instructions per second of the bench and of a plain C interpreter, on the same program and count, in one run.
+# Instructions and clocks per second of the bench and of plain C, on the same program and count, in one run.
 set -euo pipefail
 cd "$(dirname "$0")/.."
 mkdir -p target/speed
-gcc -O2 -Wall -Wextra -o target/speed/dp32 speed/dp32.c
-scenario=speed/long.scenario
-count=$(sed -n 's/^instruction //p' "$scenario")
-words=$(sed -n 's/^words 0 //p' "$scenario")
 
 # seconds COMMAND..: runs it, and prints the best time of three
 seconds() {
@@ -19,12 +15,23 @@ seconds() {
     done
     echo "$best"
 }
-ours=$(seconds target/bin/bench "$scenario")
-tail -n +4 target/speed/out >target/speed/ours
-plain=$(seconds target/speed/dp32 "$count" $words)
-cmp target/speed/ours target/speed/out
-awk -v n="$count" -v a="$ours" -v b="$plain" 'BEGIN {
-    printf "bench        %12.0f instructions per second\n", n / a * 1e9
-    printf "C interpreter %11.0f instructions per second\n", n / b * 1e9
-    printf "ratio        %12.2f\n", b / a
-}'
+
+# compare UNIT SCENARIO PROGRAM: the bench on a scenario of so many units, and the C program on its count and words
+compare() {
+    local unit=$1 scenario=$2 plain=target/speed/$3
+    gcc -O2 -Wall -Wextra -o "$plain" "speed/$3.c"
+    local count=$(sed -n "s/^$unit //p" "$scenario")
+    local words=$(sed -n 's/^words 0 //p' "$scenario")
+    local ours=$(seconds target/bin/bench "$scenario")
+    tail -n +4 target/speed/out >target/speed/ours
+    local theirs=$(seconds "$plain" "$count" $words)
+    cmp target/speed/ours target/speed/out
+    awk -v unit="$unit" -v n="$count" -v a="$ours" -v b="$theirs" 'BEGIN {
+        printf "bench   %12.0f %ss per second\n", n / a * 1e9, unit
+        printf "plain C %12.0f %ss per second\n", n / b * 1e9, unit
+        printf "ratio   %12.2f\n", b / a
+    }'
+}
+
+compare instruction speed/long.scenario dp32
+compare clock speed/clock.scenario dp32_clock

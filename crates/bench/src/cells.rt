@@ -1,10 +1,11 @@
 // Looking at the cells of a card, placing a word, and placing an image. What is printed is the bench's format, so it stands here
 // and in no `Display` of the library's types.
+use super::mistake::Mistake;
 use super::stack::Task;
 use card::{Card, Cell, Origin};
 use image::Image;
 use refusal::Refusal;
-use std::{fmt, io};
+use std::{fmt, fs, io};
 
 // The cell at an address.
 #[derive(Drop)]
@@ -93,4 +94,10 @@ impl Task for Load {
             }
         }
     }
+}
+
+// The bytes of the file of an image.
+pub fn read_file(rt: &HostRuntime, name: &[u8]) -> Result<Vec<u8>, Mistake> {
+    let path = std::str::from_utf8(name).map_err(|_| Mistake::Unreadable)?;
+    fs::read(rt, path).map_err(|_| Mistake::Unreadable)
 }

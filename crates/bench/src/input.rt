@@ -1,6 +1,21 @@
-// The text of a scenario, from standard input or from the files named as arguments.
+// The text of a scenario, from standard input or from the files named as arguments, and its lines.
+use command::{Command, Wrong};
+use std::alloc::{AllocError, Global};
 use std::io::Read;
-use std::{env, fs, io};
+use std::{env, fs, io, mem};
+
+// A line that has a command or is wrong, by its number in its file.
+#[derive(Drop)]
+pub struct Line {
+    pub number: u64,
+    pub command: Result<Command, Wrong>,
+}
+
+impl Line {
+    pub fn command(&self) -> Result<&Command, Wrong> {
+        self.command.as_ref().map_err(|wrong| *wrong)
+    }
+}
 
 // The text of each file; None, and a line that says which, if one cannot be read.
 pub fn gather(rt: &HostRuntime) -> io::Result<Option<Vec<Vec<u8>>>> {
@@ -20,4 +35,24 @@ pub fn gather(rt: &HostRuntime) -> io::Result<Option<Vec<Vec<u8>>>> {
         files.push(text)?;
     }
     Ok(Some(files))
+}
+
+// The lines of all files, parted before each card: the lines before the first one, then those of each scenario.
+pub fn scenarios(heap: Global, files: &[Vec<u8>]) -> Result<Vec<Vec<Line>>, AllocError> {
+    let mut scenarios = Vec::new(heap);
+    let mut lines = Vec::new(heap);
+    for file in files {
+        // lines are counted from 1 in each file
+        for (number, text) in (1u64..).zip(file.split(|byte| *byte == b'\n')) {
+            let Some(command) = command::read(heap, text).transpose() else {
+                continue;
+            };
+            if let Ok(Command::Card(_, _)) = command {
+                scenarios.push(mem::replace(&mut lines, Vec::new(heap)))?;
+            }
+            lines.push(Line { number, command })?;
+        }
+    }
+    scenarios.push(lines)?;
+    Ok(scenarios)
 }

@@ -44,7 +44,7 @@ impl Memory {
         Ok(())
     }
 
-    // Does a task on the whole stack over the words. No transfer outlasts a task, so a stack is made anew for each.
+    // Does a task on the whole stack over the words. A stack is made anew for each, and no transfer outlasts its stack.
     pub fn perform<T: Task>(&mut self, rt: &HostRuntime, task: T) -> io::Result<T::Answer> {
         match self.bottom {
             Bottom::Word => {

@@ -151,6 +151,8 @@ impl<M: Memory> Cells for BottomCard<M> {
     }
 }
 
+// Begin and cancel are nearly a layer's. They are this card's own since it keeps a request and no waits, and since each says besides
+// what the memory is afterwards.
 impl<M: Memory> Card for BottomCard<M> {
     fn begin(&mut self, request: Request) -> Result<u16, Refusal>
         ensures begun { Begun (bottom (M.cells self.old.memory) self.old.request) request

@@ -16,11 +16,11 @@ use Rattle.clocked.specs.declared.tick.Answer.{Answer}
 use Rattle.clocked.specs.declared.tick.Tick.{Tick}
 use Rattle.clocked.specs.Calls.{Did, Accepted, ClockedUnless, ResetUnless, DrawnUnless, SetUnless, GivenUnless}
 use Rattle.clocked.specs.Refusals.{when_locked, when_halted, clock_refusal, reset_refusal, draw_refusal, key_refusal, is_fetch0, is_at_rest, fits}
-use Rattle.clocked.specs.Comparison.{compared_after, with_register, clocks_after, begun, waits_after, out_after}
-use Rattle.clocked.specs.Changes.{settled, restarting, locking, setting}
+use Rattle.clocked.specs.Comparison.{compared_after, with_register, since_after, begun, out_after}
+use Rattle.clocked.specs.Changes.{written_back, restarting, locking, setting}
 use Rattle.clocked.specs.Processor.{shown, storing}
 use Rattle.clocked.specs.Entries.{Answers, DidRow, Took, refusal_of, refusal_due, Unchanged, KeyStays}
-use Rattle.clocked.specs.Runs.{Config, Event, clocked, reset, drawn, set, given, MadeBy}
+use Rattle.clocked.specs.Runs.{Config, outcome_of, tick_of, Event, clocked, reset, drawn, set, given, MadeBy}
 use Rattle.clocked.specs.Table.{row_of}
 use Rattle.clocked.proofs.Invariant.{At, Inv, Rest, Mid, μ}
 use Rattle.clocked.proofs.Gives.{Gives, FallsBy}
@@ -40,10 +40,10 @@ FallsAfter (set k n w r) x y = Unit {0}
 FallsAfter (given k r) x y = Unit {0}
 
 pub record Follows (A : State) (n w : ℕ) (b : Config) (e : Event) (a : Config) : Type 0 where
-  pub inv : Inv (compared_after e A) (clocks_after e n) (waits_after e (begun b.card.transfer a.card.transfer) w) a.processor a.card
-  pub answers : Answers e A
-  pub row : DidRow e b a
-  pub took : Took e A n (begun b.card.transfer a.card.transfer + w)
+  pub inv : Inv (compared_after e A) (since_after e 1 n) (since_after e (begun b.card.transfer a.card.transfer) w) a.processor a.card
+  pub answers : Answers (outcome_of e) A
+  pub row : DidRow (tick_of e) b a
+  pub took : Took (outcome_of e) A n (w + begun b.card.transfer a.card.transfer)
   pub refused : refusal_of e ≡ refusal_due e b
   pub unchanged : Unchanged (refusal_of e) b a
   pub stays : KeyStays e
@@ -72,7 +72,7 @@ module _ (A : State) (n w : ℕ) (p : Processor) (c : Meaning) (t : Answer) (q :
   by_state (Execute2 a) e at did = execute2 A n w p c t q d a e at did
 
 -- A call that is not refused has not what it would be refused for.
-no_lock : (l : Bool) (x : Option Refusal) → when_locked l x ≡ None → (l ≡ false) × (x ≡ None)
+pub no_lock : (l : Bool) (x : Option Refusal) → when_locked l x ≡ None → (l ≡ false) × (x ≡ None)
 no_lock false x e = (refl, e)
 no_lock true x e = elim (some_none _ e) [ ]
 
@@ -98,9 +98,9 @@ Silent (set k n w r) = Unit {0}
 Silent (given k r) = Unit {0}
 
 record Silence (A : State) (n w x y : ℕ) (b : Config) (e : Event) (a : Config) : Type 0 where
-  answers : Answers e A
-  row : DidRow e b a
-  took : Took e A n w
+  answers : Answers (outcome_of e) A
+  row : DidRow (tick_of e) b a
+  took : Took (outcome_of e) A n w
   falls : FallsAfter e x y
 
 silence : (A : State) (n w x y : ℕ) (b : Config) (e : Event) (a : Config) → Silent e → Silence A n w x y b e a
@@ -118,11 +118,11 @@ module _ (A : State) (n w : ℕ) (p : Processor) (c : Meaning) (inv : Inv A n w 
 
   -- A call of which no answer, row or count is asked.
   quietly : (e : Event) (a : Config) → Silent e →
-      Inv (compared_after e A) (clocks_after e n) (waits_after e (begun c.transfer a.card.transfer) w) a.processor a.card →
+      Inv (compared_after e A) (since_after e 1 n) (since_after e (begun c.transfer a.card.transfer) w) a.processor a.card →
       refusal_of e ≡ refusal_due e (config p c) → Unchanged (refusal_of e) (config p c) a → KeyStays e →
       a.processor.locked ≡ out_after e p.locked → Follows A n w (config p c) e a
   quietly e a silent after refused unchanged stays locked =
-      let s = silence A n (begun c.transfer a.card.transfer + w) (μ p c) (μ a.processor a.card) (config p c) e a silent in
+      let s = silence A n (w + begun c.transfer a.card.transfer) (μ p c) (μ a.processor a.card) (config p c) e a silent in
       record {
         inv = after;
         answers = s.answers;
@@ -169,14 +169,14 @@ module _ (A : State) (n w : ℕ) (p : Processor) (c : Meaning) (inv : Inv A n w 
   reset_unless None is r q d h =
       subst (λ (y : Result (Unit {0}) Refusal). Follows A n w (config p c) (reset y) (config q d)) (sym h.0)
       (subst (λ (y : Config). Follows A n w (config p c) (reset (Ok tt)) y)
-      (sym (same_config (restarting (settled p)) q (idle c) d h.1 h.2))
-      (quietly (reset (Ok tt)) (config (restarting (settled p)) (idle c)) tt
+      (sym (same_config (restarting (written_back p)) q (idle c) d h.1 h.2))
+      (quietly (reset (Ok tt)) (config (restarting (written_back p)) (idle c)) tt
       (record {
         agrees = restarting_as A n w p c (whereabouts p.control A n w p c inv);
         idle = refl;
         clocks = refl;
         waits = refl;
-        settled = λ l. refl;
+        stored = λ l. refl;
       })
       (sym is) tt tt refl))
   reset_unless (Some e) is r q d h =
@@ -202,10 +202,10 @@ module _ (A : State) (n w : ℕ) (p : Processor) (c : Meaning) (inv : Inv A n w 
       let at = holds (is_at_rest p) _ free.1 in
       subst (λ (y : Result Key Refusal). Follows A n w (config p c) (drawn y) (config q d)) (sym h.0)
       (subst (λ (y : Config). Follows A n w (config p c) (drawn (Ok (record { axis = axis_number p.axis }))) y)
-      (sym (same_config (locking true (settled p)) q c d h.1 dc))
-      (quietly (drawn (Ok (record { axis = axis_number p.axis }))) (config (locking true (settled p)) c) tt
-      (resting A (locking true (settled p))
-      (λ k h. record { agrees = h.agrees; idle = h.idle; clocks = h.clocks; waits = h.waits; settled = λ l. refl }) refl
+      (sym (same_config (locking true (written_back p)) q c d h.1 dc))
+      (quietly (drawn (Ok (record { axis = axis_number p.axis }))) (config (locking true (written_back p)) c) tt
+      (resting A (locking true (written_back p))
+      (λ k h. record { agrees = h.agrees; idle = h.idle; clocks = h.clocks; waits = h.waits; stored = λ l. refl }) refl
       (λ k h. never_both _ (not_resting A n w p c k h) at))
       (sym is) tt tt refl))
   draw_unless (Some e) is r q d h dc =
@@ -230,11 +230,11 @@ module _ (A : State) (n w : ℕ) (p : Processor) (c : Meaning) (inv : Inv A n w 
       (quietly (set k m v (Ok tt)) (config (setting m v p) c) tt
       (resting (with_register m v A) (setting m v p)
       (λ at h. record {
-        agrees = setting_as m v (h.settled out) h.agrees;
+        agrees = setting_as m v (h.stored out) h.agrees;
         idle = h.idle;
         clocks = h.clocks;
         waits = h.waits;
-        settled = h.settled;
+        stored = h.stored;
       }) refl
       (λ at h. never_both p.locked h.3 out))
       (sym is) tt tt refl))
@@ -258,7 +258,7 @@ module _ (A : State) (n w : ℕ) (p : Processor) (c : Meaning) (inv : Inv A n w 
         idle = h.idle;
         clocks = h.clocks;
         waits = h.waits;
-        settled = λ l. elim (never_both false refl l) [ ];
+        stored = λ l. elim (never_both false refl l) [ ];
       }) refl
       (λ at h. never_both p.locked h.3 out))
       (sym is) tt tt refl))

@@ -1,5 +1,5 @@
 -- The clock in decode, by the class of the instruction and, of a branch, whether it is taken.
-use Rattle.std.proofs.Common.{◌≡◌, ℕ, ◌+◌, Bool, true, false, sym, refl, ap, ◌∙◌, subst, arith}
+use Rattle.std.proofs.Common.{◌≡◌, ℕ, ◌+◌, Some, Bool, true, false, sym, refl, ap, ◌∙◌, subst, arith}
 use Rattle.card.specs.declared.transfer.Direction.TheVariants.{Read}
 use Rattle.card.specs.Ends.{end_of}
 use Rattle.card.specs.Meaning.{Meaning}
@@ -19,7 +19,7 @@ use Rattle.clocked.specs.declared.tick.Answer.{Answer}
 use Rattle.clocked.specs.Calls.{Did}
 use Rattle.clocked.specs.Comparison.{count_of, begun, clocks_for}
 use Rattle.clocked.specs.Changes.{going}
-use Rattle.clocked.specs.Entries.{TookBy}
+use Rattle.clocked.specs.Entries.{Took}
 use Rattle.clocked.specs.Table.{decodes, row_of}
 use Rattle.clocked.proofs.Invariant.{At, Idle, Fetched, Displaces, Ready, origin, class_in, taken_in, executed_by, resumed, ready_pc, last}
 use Rattle.clocked.proofs.Gives.{Gives, given_as}
@@ -70,7 +70,7 @@ module _ (A : State) (n w : ℕ) (i : Instruction) (p : Processor) (c : Meaning)
         }
 
     finishing : (o : Outcome) → executed_by k t i O ≡ (o, jump O (plus p.start 1)) →
-        (n + 1 ≡ count_of A + (begun c.transfer c.transfer + w) → TookBy (Ended o) A n (begun c.transfer c.transfer + w)) →
+        (n + 1 ≡ count_of A + (w + begun c.transfer c.transfer) → Took (Some o) A n (w + begun c.transfer c.transfer)) →
         clocks_for k t ≡ 4 → Gives A n w (Decode i) c (Ended o) (going Fetch0 p) c
     finishing o same took clocks =
         let none = begun_same c.transfer in

@@ -18,7 +18,7 @@ use Rattle.clocked.specs.Calls.{Ends, PollsFrom, waits_left}
 use Rattle.clocked.specs.Comparison.{begun}
 use Rattle.clocked.specs.Changes.{going_at, halting}
 use Rattle.clocked.specs.Processor.{shown, storing}
-use Rattle.clocked.specs.Entries.{TookBy}
+use Rattle.clocked.specs.Entries.{Took}
 use Rattle.clocked.specs.Table.{Move}
 use Rattle.clocked.proofs.Gives.{Gives, given_as}
 use Rattle.clocked.proofs.Polling.{Outcome as Polled, waits, ends, polled, begun_busy}
@@ -33,7 +33,7 @@ module _ (A O S : State) (o : Outcome) (u : State) where
 
 module _ (A : State) (n w : ℕ) (k : Control) (p : Processor) (c : Meaning) (q : Processor) (d : Meaning) (o : Outcome) (u : State) where
   pub ending : q.control ≡ Fetch0 → q.locked ≡ false → d.transfer ≡ None → A ≡ origin p c.map → p.fault ≡ None →
-      running (origin p c.map) ≡ (o, u) → u ≡ shown q d.map → TookBy (Ended o) A n (begun c.transfer d.transfer + w) →
+      running (origin p c.map) ≡ (o, u) → u ≡ shown q d.map → Took (Some o) A n (w + begun c.transfer d.transfer) →
       Gives A n w k c (Ended o) q d
   ending boundary unlocked idle same unhalted left is took =
       let both = compares A (origin p c.map) (shown q d.map) o u same unhalted left is in
@@ -44,7 +44,7 @@ module _ (A : State) (n w : ℕ) (k : Control) (p : Processor) (c : Meaning) (q 
               idle = idle;
               clocks = refl;
               waits = refl;
-              settled = λ locked. elim (never_both q.locked unlocked locked) [ ];
+              stored = λ locked. elim (never_both q.locked unlocked locked) [ ];
             });
         answers = ap (λ (x : Option Outcome × State). x.0) both;
         took = took;
@@ -53,26 +53,26 @@ module _ (A : State) (n w : ℕ) (k : Control) (p : Processor) (c : Meaning) (q 
       }
 
 -- What an axis shows that has no result pending.
-module _ (p : Processor) (f g : Map) (settled : p.pending ≡ None) (same : f ≡ g) where
+module _ (p : Processor) (f g : Map) (none : p.pending ≡ None) (same : f ≡ g) where
   pub shown_at_last : (x y : ℕ) → x ≡ y → jump (origin p f) x ≡ shown (going_at Fetch0 y p) g
   shown_at_last x y e =
-      ap (λ (z : Option Pending). jump (record { axis = p.axis; registers = storing z p.registers.words; pc = x; flags = p.flags; map = f; fault = p.fault }) x) (sym settled)
+      ap (λ (z : Option Pending). jump (record { axis = p.axis; registers = storing z p.registers.words; pc = x; flags = p.flags; map = f; fault = p.fault }) x) (sym none)
       ∙ ap (λ (z : ℕ). shown (going_at Fetch0 z p) f) e ∙ ap (shown (going_at Fetch0 y p)) same
 
   pub shown_halted : (s : Stage) (a : ℕ) (why : AccessFault) →
       (halt (origin p f) s a why).1 ≡ shown (halting s a why p) g
   shown_halted s a why =
-      ap (λ (z : Option Pending). record { axis = p.axis; registers = storing z p.registers.words; pc = p.start; flags = p.flags; map = f; fault = Some (record { axis = p.axis; stage = s; instruction = p.start; access = a; cause = why.cause; origin = why.origin }) }) (sym settled)
+      ap (λ (z : Option Pending). record { axis = p.axis; registers = storing z p.registers.words; pc = p.start; flags = p.flags; map = f; fault = Some (record { axis = p.axis; stage = s; instruction = p.start; access = a; cause = why.cause; origin = why.origin }) }) (sym none)
       ∙ ap (shown (halting s a why p)) same
 
 -- A clock that waits leaves the processor, with one wait less.
 module _ (A : State) (n w : ℕ) (k : Control) (p : Processor) (c : Meaning) (b : Request) (v : ℕ) where
-  pub waited : p.control ≡ k → p.locked ≡ false → At k A (n + 1) (begun c.transfer (waiting b v c).transfer + w) p (waiting b v c) →
+  pub waited : p.control ≡ k → p.locked ≡ false → At k A (n + 1) (w + begun c.transfer (waiting b v c).transfer) p (waiting b v c) →
       clocks_left k v c.patience + 1 ≤ clocks_left k (waits_left c.transfer) c.patience →
       Gives A n w k c Waiting p (waiting b v c)
   waited is unlocked inv less =
       record {
-        inv = subst (λ (x : Control). At x A (n + 1) (begun c.transfer (waiting b v c).transfer + w) p (waiting b v c)) (sym is) inv;
+        inv = subst (λ (x : Control). At x A (n + 1) (w + begun c.transfer (waiting b v c).transfer) p (waiting b v c)) (sym is) inv;
         answers = tt;
         took = tt;
         unlocked = unlocked;
@@ -83,8 +83,8 @@ module _ (A : State) (n w : ℕ) (k : Control) (p : Processor) (c : Meaning) (b 
 module _ (A : State) (n w : ℕ) (k : Control) (p : Processor) (c : Meaning) (t : Answer) (q : Processor) (d : Meaning)
     (b : Request) (r z : ℕ) (take : ℕ → Move) (s : Stage) (a : ℕ) where
   pub polling : p.control ≡ k → Busy A n w p c b r z → PollsFrom c.transfer take s a p c t q d →
-      ((v : ℕ) → Busy A (n + 1) (begun c.transfer (waiting b v c).transfer + w) p (waiting b v c) b r z →
-      At k A (n + 1) (begun c.transfer (waiting b v c).transfer + w) p (waiting b v c)) →
+      ((v : ℕ) → Busy A (n + 1) (w + begun c.transfer (waiting b v c).transfer) p (waiting b v c) b r z →
+      At k A (n + 1) (w + begun c.transfer (waiting b v c).transfer) p (waiting b v c)) →
       ((v : ℕ) → clocks_left k v c.patience + 1 ≤ clocks_left k (v + 1) c.patience) →
       (Ends (end_in b c.map) take s a p t q → d ≡ finished b c → n + r ≡ z + w → Gives A n w k c t q d) →
       Gives A n w k c t q d

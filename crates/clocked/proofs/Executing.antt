@@ -1,5 +1,5 @@
 -- The clocks in execute_0, execute_1 and execute_2.
-use Rattle.std.proofs.Common.{◌≡◌, ℕ, ◌+◌, Bool, true, false, Ok, Err, None, sym, refl, ap, ◌∙◌, arith}
+use Rattle.std.proofs.Common.{◌≡◌, ℕ, ◌+◌, Some, Bool, true, false, Ok, Err, None, sym, refl, ap, ◌∙◌, arith}
 use Rattle.card.specs.declared.cell.Cell.{Cell}
 use Rattle.card.specs.declared.cell.Cell.TheVariants.{Absent, Fixed, Open}
 use Rattle.card.specs.declared.cell.AccessFault.{AccessFault}
@@ -28,7 +28,7 @@ use Rattle.clocked.specs.Comparison.{count_of, begun}
 use Rattle.clocked.specs.Control.{request_of, stage_of}
 use Rattle.clocked.specs.Changes.{going, going_at, latching, halting}
 use Rattle.clocked.specs.Processor.{shown}
-use Rattle.clocked.specs.Entries.{TookBy}
+use Rattle.clocked.specs.Entries.{Took}
 use Rattle.clocked.specs.Table.{executes, latches, skipping, completes, row_of}
 use Rattle.clocked.proofs.Invariant.{At, Idle, Ready, origin, class_in, taken_in, resumed, accessed, last, end_in}
 use Rattle.clocked.proofs.Gives.{Gives, given_as}
@@ -77,7 +77,7 @@ module _ (A : State) (n w : ℕ) (i : Instruction) (d : ℕ) (p : Processor) (c 
     -- To the end.
     finishing : (o : Outcome) (u : State) (q : Processor) → q.control ≡ Fetch0 → q.locked ≡ p.locked → last k ≡ 1 →
         resumed k t i O d ≡ (o, u) → u ≡ shown q c.map →
-        (n + 1 ≡ count_of A + (begun c.transfer c.transfer + w) → TookBy (Ended o) A n (begun c.transfer c.transfer + w)) →
+        (n + 1 ≡ count_of A + (w + begun c.transfer c.transfer) → Took (Some o) A n (w + begun c.transfer c.transfer)) →
         Gives A n w (Execute0 i d) c (Ended o) q c
     finishing o u q boundary lock clocks same is took =
         let none = begun_same c.transfer in

@@ -16,7 +16,7 @@ use Rattle.clocked.specs.declared.tick.Answer.TheVariants.{On, Ended}
 use Rattle.clocked.specs.Calls.{Did, Ends, waits_left}
 use Rattle.clocked.specs.Comparison.{count_fetched}
 use Rattle.clocked.specs.Control.{reads_at}
-use Rattle.clocked.specs.Changes.{settled, noting, going, going_at, halting}
+use Rattle.clocked.specs.Changes.{written_back, noting, going, going_at, halting}
 use Rattle.clocked.specs.Table.{on_to, row_of}
 use Rattle.clocked.proofs.Invariant.{At, origin, class_in}
 use Rattle.clocked.proofs.Gives.{Gives, given_as}
@@ -28,7 +28,7 @@ module _ (A : State) (n w : ℕ) (p : Processor) (c : Meaning) (t : Answer) (q :
   pub fetch0 : p.fault ≡ None → p.locked ≡ false → At Fetch0 A n w p c → Did (row_of Fetch0 p) p c t q d → Gives A n w Fetch0 c t q d
   fetch0 unhalted unlocked h did =
       let none = begun_same c.transfer in
-      given_as A n w Fetch0 c t On q (noting Fetch1 (settled p)) d c did.0 did.1 did.2
+      given_as A n w Fetch0 c t On q (noting Fetch1 (written_back p)) d c did.0 did.1 did.2
       (record {
         inv = (
           record {

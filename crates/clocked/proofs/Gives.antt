@@ -8,8 +8,9 @@ use Rattle.clocked.specs.declared.processor.Processor.{Processor}
 use Rattle.clocked.specs.declared.tick.Answer.{Answer}
 use Rattle.clocked.specs.declared.tick.Answer.TheVariants.{On, Waiting, Ended}
 use Rattle.clocked.specs.Calls.{waits_left}
-use Rattle.clocked.specs.Comparison.{compared_by, clocks_by, begun, waits_by}
-use Rattle.clocked.specs.Entries.{AnswersBy, TookBy}
+use Rattle.clocked.specs.Comparison.{compared_by, since_by, begun}
+use Rattle.clocked.specs.Entries.{Answers, Took}
+use Rattle.clocked.specs.Runs.{outcome_by}
 use Rattle.clocked.proofs.Invariant.{Inv, clocks_left, μ}
 
 abbrev pub FallsBy : Answer → ℕ → ℕ → Type 0
@@ -19,9 +20,9 @@ FallsBy (Ended o) x y = Unit {0}
 
 -- From the control state k on the card c.
 pub record Gives (A : State) (n w : ℕ) (k : Control) (c : Meaning) (t : Answer) (q : Processor) (d : Meaning) : Type 0 where
-  pub inv : Inv (compared_by t A) (clocks_by t n) (waits_by t (begun c.transfer d.transfer) w) q d
-  pub answers : AnswersBy t A
-  pub took : TookBy t A n (begun c.transfer d.transfer + w)
+  pub inv : Inv (compared_by t A) (since_by t 1 n) (since_by t (begun c.transfer d.transfer) w) q d
+  pub answers : Answers (outcome_by t) A
+  pub took : Took (outcome_by t) A n (w + begun c.transfer d.transfer)
   pub unlocked : q.locked ≡ false
   pub falls : FallsBy t (clocks_left k (waits_left c.transfer) c.patience) (μ q d)
 

@@ -131,7 +131,7 @@ pub record Rest (A : State) (n w : ℕ) (p : Processor) (m : Meaning) : Type 0 w
   pub clocks : n ≡ 0
   pub waits : w ≡ 0
   -- the draw stored a pending result
-  pub settled : p.locked ≡ true → p.pending ≡ None
+  pub stored : p.locked ≡ true → p.pending ≡ None
 
 -- In the middle of an instruction: neither halted nor locked, and no result is pending.
 abbrev pub Mid : State → Processor → Meaning → Type 0

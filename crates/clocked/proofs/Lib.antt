@@ -10,5 +10,6 @@ mod Decoding
 mod Executing
 mod Resting
 mod Calling
+mod Answering
 mod Theorem
 mod Refuted

@@ -11,7 +11,7 @@ use Rattle.clocked.specs.declared.pending.Pending.{Pending}
 use Rattle.clocked.specs.declared.processor.Processor.{Processor}
 use Rattle.clocked.specs.Refusals.{clock_refusal, is_fetch0, rests_at, when_locked, when_halted, when_transfer}
 use Rattle.clocked.specs.Control.{reads_at, request_of}
-use Rattle.clocked.specs.Changes.{settled, restarting}
+use Rattle.clocked.specs.Changes.{written_back, restarting}
 use Rattle.clocked.specs.Processor.{shown, storing}
 use Rattle.clocked.specs.Table.{row_of}
 use Rattle.clocked.proofs.Invariant.{At, Mid, Rest, Requests}
@@ -73,7 +73,7 @@ module _ (A : State) (n w : ℕ) (p : Processor) (m : Meaning) where
   agreeing (rests k h) at = sym h.agrees
   agreeing (goes k h) at = elim (never_both _ (not_resting k h) at) [ ]
 
-  pub restarting_as : Where p.control A n w p m → restarted A ≡ shown (restarting (settled p)) m.map
+  pub restarting_as : Where p.control A n w p m → restarted A ≡ shown (restarting (written_back p)) m.map
   restarting_as (rests k h) = ap restarted h.agrees
   restarting_as (goes k h) =
       ap restarted h.0

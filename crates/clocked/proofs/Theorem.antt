@@ -1,24 +1,29 @@
 -- The promise, of the processor and the card that power-up hands back: the invariant along every run, and the clocks left.
-use Rattle.std.proofs.Common.{◌≡◌, ℕ, ◌+◌, ◌*◌, ◌≤◌, Bool, true, false, ◌||◌, List, [], ◌∷◌, length, is_some, None, Ok, Err, Result, sym, refl, ap, ◌∙◌, subst, arith}
+use Rattle.std.proofs.Common.{◌≡◌, ℕ, ◌+◌, ◌*◌, ◌≤◌, Bool, true, false, ◌||◌, ◌&&◌, ◌==◌, Option, Some, List, [], ◌∷◌, length, is_some, None, Ok, Err, Result, sym, refl, ap, ◌∙◌, subst, arith}
 use Rattle.refusal.specs.declared.Refusal.{Refusal}
 use Rattle.card.specs.Meaning.{Meaning, idle}
 use Rattle.machine.specs.declared.axis.Axis.{Axis}
+use Rattle.machine.specs.declared.axis.Axis.TheVariants.{One, Two, Three}
+use Rattle.machine.specs.Axes.{axis_number}
+use Rattle.clocked.specs.declared.key.Key.{Key}
 use Rattle.machine.specs.State.{State, powered_up}
 use Rattle.clocked.specs.declared.control.Control.{Control}
 use Rattle.clocked.specs.declared.control.Control.TheVariants.{Fetch0, Fetch1, Fetch2, Decode, DispFetch0, DispFetch1, DispFetch2, Execute0, Execute1, Execute2}
 use Rattle.clocked.specs.declared.processor.Processor.{Processor}
 use Rattle.clocked.specs.declared.tick.Answer.{Answer}
 use Rattle.clocked.specs.declared.tick.Answer.TheVariants.{On, Waiting, Ended}
-use Rattle.clocked.specs.Calls.{PoweredAs, waits_left}
-use Rattle.clocked.specs.Refusals.{clock_refusal}
+use Rattle.clocked.specs.Calls.{PoweredAs, DrawnUnless, waits_left}
+use Rattle.clocked.specs.Refusals.{clock_refusal, draw_refusal, fits}
 use Rattle.clocked.specs.Comparison.{compared, compared_by, clocks_since, waits_since, key_out, out_after}
+use Rattle.clocked.specs.Entries.{KeyFits}
 use Rattle.clocked.specs.Processor.{fresh}
-use Rattle.clocked.specs.Promise.{Promise, Promised, Kept, Running, AreClocks, ends, ends_by, some_ends}
-use Rattle.clocked.specs.Runs.{Config, Event, clocked, reset, drawn, set, given, Entry, events, Run, none, more, Made, MadeBy}
+use Rattle.clocked.specs.Promise.{Promise, Promised, Agreement, Timing, Refusing, Keyed, Running, AreClocks, some_ends}
+use Rattle.clocked.specs.Runs.{Config, outcome_by, outcome_of, Event, clocked, reset, drawn, set, given, Entry, events, Run, none, more, Made, MadeBy}
 use Rattle.clocked.proofs.Invariant.{At, Inv, clocks_left, μ}
+use Rattle.clocked.proofs.Answering.{answers}
 use Rattle.clocked.proofs.Gives.{FallsBy}
-use Rattle.clocked.proofs.Calling.{follows}
-use Rattle.clocked.proofs.Resting.{whereabouts, same_fault, agreeing, running_refusal, due}
+use Rattle.clocked.proofs.Calling.{Follows, follows}
+use Rattle.clocked.proofs.Resting.{Where, whereabouts, same_fault, agreeing, running_refusal, due}
 use Rattle.clocked.proofs.Steps.{never_both, some_none}
 
 -- The run before its newest entry, and that entry.
@@ -29,6 +34,25 @@ Before M start (e ∷ es) = Run M start es e.before × M e
 before : {M : Entry → Type 0} {start : Config} {es : List Entry} {c : Config} → Run M start es c → Before M start es
 before none = tt
 before (more e es r m) = (r, m)
+
+-- The key that a draw answers fits the processor afterwards.
+own_axis : (a : Axis) → ((axis_number a == axis_number a) && true) ≡ true
+own_axis One = refl
+own_axis Two = refl
+own_axis Three = refl
+
+drawn_fits : (x : Option Refusal) (p : Processor) (r : Result Key Refusal) (a : Config) → DrawnUnless x p r a.processor → KeyFits (drawn r) a
+drawn_fits None p r a h =
+    subst (λ (y : Result Key Refusal). KeyFits (drawn y) a) (sym h.0)
+    (subst (λ (q : Processor). fits (record { axis = axis_number p.axis }) q ≡ true) (sym h.1) (own_axis p.axis))
+drawn_fits (Some e) p r a h = subst (λ (y : Result Key Refusal). KeyFits (drawn y) a) (sym h.0) tt
+
+fitting : (e : Event) (b a : Config) → MadeBy e b a → KeyFits e a
+fitting (clocked r) b a h = tt
+fitting (reset r) b a h = tt
+fitting (drawn r) b a h = drawn_fits (draw_refusal b.processor) b.processor r a h.0
+fitting (set k n w r) b a h = tt
+fitting (given k r) b a h = tt
 
 -- The invariant holds along a run, compared with the machine that began in the state s with n clocks and w waits.
 module _ (start : Config) (s : State) (key : start.processor.locked ≡ false) (at : Inv s 0 0 start.processor start.card) where
@@ -43,29 +67,41 @@ module _ (start : Config) (s : State) (key : start.processor.locked ≡ false) (
       let f = follows _ _ _ e.before.processor e.before.card h.inv e.event e.after m in
       record { inv = f.inv; lock = f.locked ∙ ap (out_after e.event) h.lock }
 
-  kept : (e : Entry) (es : List Entry) → Run Made start es e.before → Made e → Kept s es e
-  kept e es r m =
-      let h = along r in
-      let f = follows (compared s (events es)) (clocks_since (events es)) (waits_since es) e.before.processor e.before.card h.inv e.event e.after m in
-      let place = whereabouts e.after.processor.control (compared s (events (e ∷ es))) (clocks_since (events (e ∷ es))) (waits_since (e ∷ es)) e.after.processor e.after.card f.inv in
-      record {
-        agrees = agreeing (compared s (events (e ∷ es))) (clocks_since (events (e ∷ es))) (waits_since (e ∷ es)) e.after.processor e.after.card place;
-        answers = f.answers;
-        halted = ap is_some (sym (same_fault (compared s (events (e ∷ es))) (clocks_since (events (e ∷ es))) (waits_since (e ∷ es)) e.after.processor e.after.card place));
-        row = f.row;
-        took = f.took;
-        refused = f.refused;
-        unchanged = f.unchanged;
-        stays = f.stays;
-        locked = f.locked ∙ ap (out_after e.event) h.lock;
-      }
+  module _ (e : Entry) (es : List Entry) (r : Run Made start (e ∷ es) e.after) where
+    gives : Follows (compared s (events es)) (clocks_since (events es)) (waits_since es) e.before e.event e.after
+    gives = follows _ _ _ e.before.processor e.before.card (along (before r).0).inv e.event e.after (before r).1
+
+    place : Where e.after.processor.control (compared s (events (e ∷ es))) (clocks_since (events (e ∷ es))) (waits_since (e ∷ es)) e.after.processor e.after.card
+    place = whereabouts e.after.processor.control _ _ _ e.after.processor e.after.card gives.inv
+
+    agreement : Agreement s es e
+    agreement =
+        record {
+          shows = agreeing _ _ _ e.after.processor e.after.card place;
+          answers = gives.answers;
+          halted = ap is_some (sym (same_fault _ _ _ e.after.processor e.after.card place));
+        }
+
+    timing : Timing s es e
+    timing = record { row = gives.row; counted = gives.took }
+
+    refusing : Refusing es e
+    refusing = record { refused = gives.refused; unchanged = gives.unchanged }
+
+    keyed : Keyed es e
+    keyed =
+        record {
+          key_fits = fitting e.event e.before e.after (before r).1;
+          stays = gives.stays;
+          locked = gives.locked ∙ ap (out_after e.event) (along (before r).0).lock;
+        }
 
 -- Of a running axis a clock is accepted.
 accepts : (A : State) (n w : ℕ) (p : Processor) (c : Meaning) → Inv A n w p c → p.fault ≡ None → p.locked ≡ false → clock_refusal p c ≡ None
 accepts A n w p c at unhalted unlocked = running_refusal p c unhalted unlocked ∙ due p.control A n w p c at
 
 -- A clock that does not end the instruction leaves the comparison machine, and one clock less.
-goes_on : (x : Answer) (u v : ℕ) (A : State) → ends_by x ≡ false → FallsBy x u v → (v + 1 ≤ u) × (compared_by x A ≡ A)
+goes_on : (x : Answer) (u v : ℕ) (A : State) → is_some (outcome_by x) ≡ false → FallsBy x u v → (v + 1 ≤ u) × (compared_by x A ≡ A)
 goes_on On u v A quiet h = (h, refl)
 goes_on Waiting u v A quiet h = (h, refl)
 goes_on (Ended o) u v A quiet h = elim (never_both true quiet refl) [ ]
@@ -108,7 +144,7 @@ pub record Going (c : Config) (count : ℕ) (d : Config) : Type 0 where
   pub running : Running d
   pub less : μ d.processor d.card + count ≤ μ c.processor c.card
 
-one_more : (c b a : Config) (count : ℕ) (e : Event) (rest : List Event) → Going c count b → MadeBy e b a → AreClocks (e ∷ rest) → ends e ≡ false →
+one_more : (c b a : Config) (count : ℕ) (e : Event) (rest : List Event) → Going c count b → MadeBy e b a → AreClocks (e ∷ rest) → is_some (outcome_of e) ≡ false →
     Going c (count + 1) a
 one_more c b a count (clocked (Ok t)) rest g m clocks quiet =
     let f = follows g.state g.clocks g.waits b.processor b.card g.inv (clocked (Ok t)) a m in
@@ -148,7 +184,7 @@ module _ (c : Config) (A : State) (n w : ℕ) (at : Inv A n w c.processor c.card
   going : {fs : List Entry} {d : Config} → Run Made c fs d → AreClocks (events fs) → some_ends (events fs) ≡ false → Going c (length fs) d
   going none clocks quiet = record { state = A; clocks = n; waits = w; inv = at; running = runs; less = omega arith }
   going (more e es r m) clocks quiet =
-      let both = neither (ends e.event) (some_ends (events es)) quiet in
+      let both = neither (is_some (outcome_of e.event)) (some_ends (events es)) quiet in
       let g = going r (tail_clocks e.event (events es) clocks) both.1 in
       subst (λ (x : ℕ). Going c x e.after) (omega arith)
       (one_more c e.before e.after (length es) e.event (events es) g m clocks both.0)
@@ -167,16 +203,20 @@ module _ (c : Config) (A : State) (n w : ℕ) (at : Inv A n w c.processor c.card
           let never : ⊥ = omega arith in elim never [ ]
 
 start_at : (a : Axis) (c : Meaning) → Inv (powered_up a c.map) 0 0 (fresh a) (idle c)
-start_at a c = record { agrees = refl; idle = refl; clocks = refl; waits = refl; settled = λ l. refl }
+start_at a c = record { agrees = refl; idle = refl; clocks = refl; waits = refl; stored = λ l. refl }
 
 holds : (a : Axis) (c : Meaning) → Promise Made (powered_up a c.map) (record { processor = fresh a; card = idle c })
 holds a c =
     let start : Config = record { processor = fresh a; card = idle c } in
     let first : State = powered_up a c.map in
     record {
-      starts = record { boundary = refl; running = record { unhalted = refl; unlocked = refl }; agrees = refl };
-      keeps = λ e es r. kept start first refl (start_at a c) e es (before r).0 (before r).1;
+      starts = record { boundary = refl; running = record { unhalted = refl; unlocked = refl }; idle = refl; agrees = refl };
+      agreement = agreement start first refl (start_at a c);
+      timing = timing start first refl (start_at a c);
+      refusing = refusing start first refl (start_at a c);
+      keyed = keyed start first refl (start_at a c);
       progress = λ b es r runs d fs. progress b _ _ _ (along start first refl (start_at a c) r).inv runs d fs;
+      answering = λ c es r x. answers c x;
     }
 
 pub promised : (x : Result Axis Refusal) (c : Meaning) (r : Result Processor Refusal) (d : Meaning) → PoweredAs x c r d → Promised x c r d

@@ -17,7 +17,7 @@ use Rattle.clocked.specs.declared.tick.Answer.{Answer}
 use Rattle.clocked.specs.declared.tick.Answer.TheVariants.{On, Waiting, Ended}
 use Rattle.clocked.specs.declared.tick.Tick.{Tick}
 use Rattle.clocked.specs.Control.{named}
-use Rattle.clocked.specs.Changes.{settled, halting, restarting, locking, setting}
+use Rattle.clocked.specs.Changes.{written_back, halting, restarting, locking, setting}
 use Rattle.clocked.specs.Processor.{fresh}
 use Rattle.clocked.specs.Refusals.{clock_refusal, reset_refusal, draw_refusal, key_refusal}
 use Rattle.clocked.specs.Table.{Move, Row, moves, begins, polls, row_of}
@@ -74,7 +74,7 @@ Clocked p c r q d = ClockedUnless (clock_refusal p c) p c r q d
 -- Reset stores a pending result, cancels the transfer, sets PC to 0, ends a halt and leads to the boundary.
 abbrev pub ResetUnless : Option Refusal → Processor → Meaning → Result (Unit {0}) Refusal → Processor → Meaning → Type 0
 ResetUnless (Some e) p c r q d = (r ≡ Err e) × (q ≡ p) × (d ≡ c)
-ResetUnless None p c r q d = (r ≡ Ok tt) × (q ≡ restarting (settled p)) × (d ≡ idle c)
+ResetUnless None p c r q d = (r ≡ Ok tt) × (q ≡ restarting (written_back p)) × (d ≡ idle c)
 
 abbrev pub Reset : Processor → Meaning → Result (Unit {0}) Refusal → Processor → Meaning → Type 0
 Reset p c r q d = ResetUnless (reset_refusal p) p c r q d
@@ -82,7 +82,7 @@ Reset p c r q d = ResetUnless (reset_refusal p) p c r q d
 -- Draw stores a pending result, and its key bears the axis.
 abbrev pub DrawnUnless : Option Refusal → Processor → Result Key Refusal → Processor → Type 0
 DrawnUnless (Some e) p r q = (r ≡ Err e) × (q ≡ p)
-DrawnUnless None p r q = (r ≡ Ok (record { axis = axis_number p.axis })) × (q ≡ locking true (settled p))
+DrawnUnless None p r q = (r ≡ Ok (record { axis = axis_number p.axis })) × (q ≡ locking true (written_back p))
 
 abbrev pub Drawn : Processor → Result Key Refusal → Processor → Type 0
 Drawn p r q = DrawnUnless (draw_refusal p) p r q

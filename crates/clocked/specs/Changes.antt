@@ -11,8 +11,8 @@ use Rattle.clocked.specs.declared.processor.Processor.{Processor}
 use Rattle.clocked.specs.Processor.{registers_of}
 
 -- A pending result is stored.
-abbrev pub settled : Processor → Processor
-settled p =
+abbrev pub written_back : Processor → Processor
+written_back p =
     record {
       axis = p.axis;
       registers = record { words = registers_of p };

@@ -78,24 +78,25 @@ count_fetched (Err why) s = 0
 abbrev pub count_of : State → ℕ
 count_of s = count_fetched (end_of Read (s.map s.pc)) s
 
--- The accepted clocks since the boundary: an end of an instruction and a reset lead to one.
-abbrev pub clocks_by : Answer → ℕ → ℕ
-clocks_by On n = n + 1
-clocks_by Waiting n = n + 1
-clocks_by (Ended o) n = 0
+-- A sum over the calls since the boundary, to which a call adds n: an end of an instruction and an accepted reset lead to one.
+abbrev pub since_by : Answer → ℕ → ℕ → ℕ
+since_by On n sum = sum + n
+since_by Waiting n sum = sum + n
+since_by (Ended o) n sum = 0
 
-abbrev pub clocks_after : Event → ℕ → ℕ
-clocks_after (clocked (Ok t)) n = clocks_by t.answer n
-clocks_after (clocked (Err e)) n = n
-clocks_after (reset (Ok u)) n = 0
-clocks_after (reset (Err e)) n = n
-clocks_after (drawn r) n = n
-clocks_after (set k r w a) n = n
-clocks_after (given k r) n = n
+abbrev pub since_after : Event → ℕ → ℕ → ℕ
+since_after (clocked (Ok t)) n sum = since_by t.answer n sum
+since_after (clocked (Err e)) n sum = sum
+since_after (reset (Ok u)) n sum = 0
+since_after (reset (Err e)) n sum = sum
+since_after (drawn r) n sum = sum
+since_after (set k m w r) n sum = sum
+since_after (given k r) n sum = sum
 
+-- The accepted clocks since the boundary.
 abbrev pub clocks_since : List Event → ℕ
 clocks_since [] = 0
-clocks_since (e ∷ es) = clocks_after e (clocks_since es)
+clocks_since (e ∷ es) = since_after e 1 (clocks_since es)
 
 -- The waits that a transfer had when it was begun, by the transfer before and after.
 abbrev pub begun : Option Transfer → Option Transfer → ℕ
@@ -107,23 +108,9 @@ abbrev pub begun_in : Entry → ℕ
 begun_in e = begun e.before.card.transfer e.after.card.transfer
 
 -- The waits of the transfers begun since the boundary.
-abbrev pub waits_by : Answer → ℕ → ℕ → ℕ
-waits_by On b w = b + w
-waits_by Waiting b w = b + w
-waits_by (Ended o) b w = 0
-
-abbrev pub waits_after : Event → ℕ → ℕ → ℕ
-waits_after (clocked (Ok t)) b w = waits_by t.answer b w
-waits_after (clocked (Err e)) b w = w
-waits_after (reset (Ok u)) b w = 0
-waits_after (reset (Err e)) b w = w
-waits_after (drawn r) b w = w
-waits_after (set k n v r) b w = w
-waits_after (given k r) b w = w
-
 abbrev pub waits_since : List Entry → ℕ
 waits_since [] = 0
-waits_since (e ∷ es) = waits_after e.event (begun_in e) (waits_since es)
+waits_since (e ∷ es) = since_after e.event (begun_in e) (waits_since es)
 
 -- The key is out from an accepted draw to the next accepted give back.
 abbrev pub out_after : Event → Bool → Bool

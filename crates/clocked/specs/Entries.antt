@@ -1,55 +1,33 @@
 -- What is asked of one entry of a run, by its event.
 -- A reader must believe: each of these says what its comment says, and asks nothing of events that it does not name.
-use Rattle.std.specs.Prelude.{◌≡◌, ℕ, ◌+◌, Some, None, Ok, Err, Option, Result}
+use Rattle.std.specs.Prelude.{◌≡◌, ℕ, ◌+◌, true, Some, None, Ok, Err, Option, Result}
 use Rattle.refusal.specs.declared.Refusal.{Refusal}
+use Rattle.machine.specs.declared.machine.Outcome.{Outcome}
 use Rattle.machine.specs.declared.machine.Outcome.TheVariants.{Done, Ignored, Halted}
 use Rattle.machine.specs.State.{State}
 use Rattle.machine.specs.Step.{step}
-use Rattle.clocked.specs.declared.tick.Answer.{Answer}
-use Rattle.clocked.specs.declared.tick.Answer.TheVariants.{On, Waiting, Ended}
+use Rattle.clocked.specs.declared.tick.Tick.{Tick}
 use Rattle.clocked.specs.Calls.{Accepted}
 use Rattle.clocked.specs.Comparison.{count_of}
-use Rattle.clocked.specs.Refusals.{clock_refusal, reset_refusal, draw_refusal, key_refusal}
+use Rattle.clocked.specs.Refusals.{clock_refusal, reset_refusal, draw_refusal, key_refusal, fits}
 use Rattle.clocked.specs.Runs.{Config, Event, clocked, reset, drawn, set, given}
 
 -- Agreement. Every end of an instruction is also the comparison machine's answer, which is in the state s.
-abbrev pub AnswersBy : Answer → State → Type 0
-AnswersBy On s = Unit {0}
-AnswersBy Waiting s = Unit {0}
-AnswersBy (Ended o) s = (step s).0 ≡ Some o
-
-abbrev pub Answers : Event → State → Type 0
-Answers (clocked (Ok t)) s = AnswersBy t.answer s
-Answers (clocked (Err e)) s = Unit {0}
-Answers (reset r) s = Unit {0}
-Answers (drawn r) s = Unit {0}
-Answers (set k n w r) s = Unit {0}
-Answers (given k r) s = Unit {0}
+abbrev pub Answers : Option Outcome → State → Type 0
+Answers None s = Unit {0}
+Answers (Some o) s = (step s).0 ≡ Some o
 
 -- Timing. An accepted clock did the row of the table for the state that it answers.
-abbrev pub DidRow : Event → Config → Config → Type 0
-DidRow (clocked (Ok t)) b a = Accepted (Ok t) b.processor b.card a.processor a.card
-DidRow (clocked (Err e)) b a = Unit {0}
-DidRow (reset r) b a = Unit {0}
-DidRow (drawn r) b a = Unit {0}
-DidRow (set k n w r) b a = Unit {0}
-DidRow (given k r) b a = Unit {0}
+abbrev pub DidRow : Option Tick → Config → Config → Type 0
+DidRow None b a = Unit {0}
+DidRow (Some t) b a = Accepted (Ok t) b.processor b.card a.processor a.card
 
 -- A finished instruction took its own count and its waits: n are the clocks before its last one, w the waits with it.
-abbrev pub TookBy : Answer → State → ℕ → ℕ → Type 0
-TookBy On s n w = Unit {0}
-TookBy Waiting s n w = Unit {0}
-TookBy (Ended Done) s n w = n + 1 ≡ count_of s + w
-TookBy (Ended Ignored) s n w = n + 1 ≡ count_of s + w
-TookBy (Ended Halted) s n w = Unit {0}
-
-abbrev pub Took : Event → State → ℕ → ℕ → Type 0
-Took (clocked (Ok t)) s n w = TookBy t.answer s n w
-Took (clocked (Err e)) s n w = Unit {0}
-Took (reset r) s n w = Unit {0}
-Took (drawn r) s n w = Unit {0}
-Took (set k r v a) s n w = Unit {0}
-Took (given k r) s n w = Unit {0}
+abbrev pub Took : Option Outcome → State → ℕ → ℕ → Type 0
+Took None s n w = Unit {0}
+Took (Some Done) s n w = n + 1 ≡ count_of s + w
+Took (Some Ignored) s n w = n + 1 ≡ count_of s + w
+Took (Some Halted) s n w = Unit {0}
 
 -- The refusal that a call answered, and the one that it has to answer.
 abbrev pub refusal_in : {X : Type 0} → Result X Refusal → Option Refusal
@@ -83,3 +61,12 @@ KeyStays (drawn r) = Unit {0}
 KeyStays (set k n w r) = Unit {0}
 KeyStays (given k (Ok u)) = Unit {0}
 KeyStays (given k (Err e)) = e.key ≡ k
+
+-- A key that was drawn fits the processor.
+abbrev pub KeyFits : Event → Config → Type 0
+KeyFits (clocked r) a = Unit {0}
+KeyFits (reset r) a = Unit {0}
+KeyFits (drawn (Ok k)) a = fits k a.processor ≡ true
+KeyFits (drawn (Err e)) a = Unit {0}
+KeyFits (set k n w r) a = Unit {0}
+KeyFits (given k r) a = Unit {0}

@@ -1,12 +1,15 @@
 -- Runs of an axis: its calls with their arguments and answers, one after the other, refused ones included.
 -- A reader must believe: each call picks up where the last one ended, which is to say that nothing but these five calls
 -- changes the processor, its card or what lies under it.
-use Rattle.std.specs.Prelude.{◌≡◌, ℕ, List, [], ◌∷◌, map, Result}
+use Rattle.std.specs.Prelude.{◌≡◌, ℕ, List, [], ◌∷◌, map, Some, None, Ok, Err, Option, Result}
 use Rattle.refusal.specs.declared.Refusal.{Refusal}
 use Rattle.card.specs.Meaning.{Meaning}
 use Rattle.clocked.specs.declared.key.Key.{Key}
 use Rattle.clocked.specs.declared.key.NotTaken.{NotTaken}
 use Rattle.clocked.specs.declared.processor.Processor.{Processor}
+use Rattle.machine.specs.declared.machine.Outcome.{Outcome}
+use Rattle.clocked.specs.declared.tick.Answer.{Answer}
+use Rattle.clocked.specs.declared.tick.Answer.TheVariants.{On, Waiting, Ended}
 use Rattle.clocked.specs.declared.tick.Tick.{Tick}
 use Rattle.clocked.specs.Calls.{Clocked, Reset, Drawn, Set, Given}
 
@@ -23,6 +26,43 @@ pub data Event : Type 0 where
   set : Key → ℕ → ℕ → Result (Unit {0}) Refusal → Event
   given : Key → Result (Unit {0}) NotTaken → Event
 
+-- The tick of an accepted clock; no other event has one.
+abbrev pub tick_of : Event → Option Tick
+tick_of (clocked (Ok t)) = Some t
+tick_of (clocked (Err e)) = None
+tick_of (reset r) = None
+tick_of (drawn r) = None
+tick_of (set k n w r) = None
+tick_of (given k r) = None
+
+-- The outcome of the instruction that an accepted clock ended.
+abbrev pub outcome_by : Answer → Option Outcome
+outcome_by On = None
+outcome_by Waiting = None
+outcome_by (Ended o) = Some o
+
+abbrev pub outcome_in : Option Tick → Option Outcome
+outcome_in None = None
+outcome_in (Some t) = outcome_by t.answer
+
+abbrev pub outcome_of : Event → Option Outcome
+outcome_of e = outcome_in (tick_of e)
+
+-- A call with its arguments.
+pub data Call : Type 0 where
+  to_clock : Call
+  to_reset : Call
+  to_draw : Call
+  to_set : Key → ℕ → ℕ → Call
+  to_give_back : Key → Call
+
+abbrev pub call_of : Event → Call
+call_of (clocked r) = to_clock
+call_of (reset r) = to_reset
+call_of (drawn r) = to_draw
+call_of (set k n w r) = to_set k n w
+call_of (given k r) = to_give_back k
+
 pub record Entry : Type 0 where
   pub before : Config
   pub event : Event
@@ -36,7 +76,7 @@ pub data Run (M : Entry → Type 0) (start : Config) : List Entry → Config →
   none : Run M start [] start
   more : (e : Entry) (es : List Entry) → Run M start es e.before → M e → Run M start (e ∷ es) e.after
 
--- What the five calls of a processor make: the relations of their own contracts.
+-- What the five calls of a processor make: the relations of their own contracts. The last three are not lent the card.
 abbrev pub MadeBy : Event → Config → Config → Type 0
 MadeBy (clocked r) b a = Clocked b.processor b.card r a.processor a.card
 MadeBy (reset r) b a = Reset b.processor b.card r a.processor a.card

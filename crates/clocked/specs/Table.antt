@@ -24,7 +24,7 @@ use Rattle.clocked.specs.declared.processor.Processor.{Processor}
 use Rattle.clocked.specs.declared.tick.Answer.{Answer}
 use Rattle.clocked.specs.declared.tick.Answer.TheVariants.{On, Ended}
 use Rattle.clocked.specs.Control.{reads_at, request_of, stage_of}
-use Rattle.clocked.specs.Changes.{settled, going, going_at, noting, latching}
+use Rattle.clocked.specs.Changes.{written_back, going, going_at, noting, latching}
 
 -- An answer, and the processor afterwards.
 abbrev pub Move : Type 0
@@ -77,7 +77,8 @@ abbrev pub branches : Bool → Form → ℕ → Processor → Move
 branches true f target p = (Ended Done, going_at Fetch0 target p)
 branches false f target p = (Ended Done, going_at Fetch0 (skipping f p.pc) p)
 
--- Execute_0 with the displacement d, by the class of the instruction and whether a branch is taken.
+-- Execute_0 with the displacement d, by the class of the instruction and whether a branch is taken. An unknown opcode has ended
+-- in decode.
 abbrev pub executes : Class → Bool → Instruction → ℕ → Processor → Move
 executes (Arithmetic op) t i d p = latches (alu_of op (register p i.r1) (register p i.r2)) i p
 executes (ArithmeticQuick op) t i d p = latches (alu_of op (register p i.r1) d) i p
@@ -94,7 +95,7 @@ completes (access.Load a r) p w = (Ended Done, latching r w p.flags p)
 completes (access.Store a v) p w = (Ended Done, going Fetch0 p)
 
 abbrev pub row_of : Control → Processor → Row
-row_of Fetch0 p = moves (On, noting Fetch1 (settled p))
+row_of Fetch0 p = moves (On, noting Fetch1 (written_back p))
 row_of Fetch1 p = begins (reads_at p.pc) (going_at Fetch2 (plus p.pc 1) p)
 row_of Fetch2 p = polls (λ w. on_to (Decode (instruction_of w)) p) stage.Fetch p.start
 row_of (Decode i) p = moves (decodes (class_of i.opcode) (taken_by i.mask p.flags) i p)

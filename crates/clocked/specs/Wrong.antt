@@ -6,6 +6,7 @@ use Rattle.refusal.specs.declared.Refusal.{Refusal}
 use Rattle.refusal.specs.declared.Refusal.TheVariants as refused
 use Rattle.card.specs.declared.cell.Cell.TheVariants.{Open}
 use Rattle.card.specs.Ends.{Map}
+use Rattle.card.specs.Meaning.{idle, mapped}
 use Rattle.machine.specs.declared.axis.Axis.TheVariants.{One}
 use Rattle.machine.specs.declared.machine.Outcome.TheVariants.{Done, Halted}
 use Rattle.machine.specs.State.{State, powered_up}
@@ -18,10 +19,10 @@ use Rattle.clocked.specs.declared.processor.Processor.{Processor}
 use Rattle.clocked.specs.declared.tick.Answer.{Answer}
 use Rattle.clocked.specs.declared.tick.Answer.TheVariants.{On, Waiting, Ended}
 use Rattle.clocked.specs.Control.{named}
-use Rattle.clocked.specs.Changes.{going, noting, settled}
+use Rattle.clocked.specs.Changes.{going, noting, written_back, restarting}
 use Rattle.clocked.specs.Processor.{shown, fresh}
-use Rattle.clocked.specs.Promise.{Promise}
-use Rattle.clocked.specs.Runs.{Config, Event, clocked, Entry}
+use Rattle.clocked.specs.Promise.{Agreement, Timing, Counted, Refusing, Always, Starts, Progress}
+use Rattle.clocked.specs.Runs.{Config, Event, clocked, reset, Entry}
 
 -- A clock that answers a state and an answer.
 abbrev pub ticks : ControlState → Answer → Event
@@ -48,11 +49,16 @@ holding s p =
       locked = p.locked;
     }
 
--- Does all the work of an instruction in fetch_0, and then idles from state to state.
+-- The configuration with the state of an axis and its memory, in fetch_1.
+abbrev pub worked : State → Config → Config
+worked s c = record { processor = holding s c.processor; card = mapped s.map c.card }
+
+-- Does all the work of an instruction in fetch_0, and then idles from state to state; its reset is as it should be.
 pub data WorksAtOnce : Entry → Type 0 where
-  works : (c : Config) →
-      WorksAtOnce (entry c (ticks Fetch0 On) (with c (holding (step (shown c.processor c.card.map)).1 c.processor)))
+  works : (c : Config) → WorksAtOnce (entry c (ticks Fetch0 On) (worked (step (shown c.processor c.card.map)).1 c))
   idles : (c : Config) (k : Control) → WorksAtOnce (entry c (ticks (named c.processor.control) On) (with c (going k c.processor)))
+  resets : (c : Config) →
+      WorksAtOnce (entry c (reset (Ok tt)) (record { processor = restarting (written_back c.processor); card = idle c.card }))
 
 -- Answers waiting where it asked nothing.
 pub data WaitsUnasked : Entry → Type 0 where
@@ -69,20 +75,26 @@ pub data HaltsBefore : Entry → Type 0 where
 
 -- Never uses the card: it goes from fetch_0 to fetch_1 and on, with the card as it was.
 pub data NeverUsesTheCard : Entry → Type 0 where
-  from_fetch0 : (c : Config) → NeverUsesTheCard (entry c (ticks Fetch0 On) (with c (noting control.Fetch1 (settled c.processor))))
+  from_fetch0 : (c : Config) → NeverUsesTheCard (entry c (ticks Fetch0 On) (with c (noting control.Fetch1 (written_back c.processor))))
   from_fetch1 : (c : Config) (q : Processor) → NeverUsesTheCard (entry c (ticks Fetch1 On) (with c q))
 
 -- Stays in fetch_0 and answers on.
 pub data StaysInFetch0 : Entry → Type 0 where
   stays : (c : Config) → StaysInFetch0 (entry c (ticks Fetch0 On) c)
 
--- Refuses every clock, as if it had halted or for a transfer.
+-- Refuses every clock with the refusal e.
 pub data RefusesEveryClock : Refusal → Entry → Type 0 where
   refuses : (e : Refusal) (c : Config) → RefusesEveryClock e (entry c (clocked (Err e)) c)
 
--- Wherever it starts, the machine does not keep the promise.
-abbrev pub Broken : (Entry → Type 0) → Type 0
-Broken M = (first : State) (start : Config) → Promise M first start → ⊥
+-- A part of the promise fails: it does not hold of the machine, wherever it starts.
+abbrev pub Fails : (State → Config → Type 0) → Type 0
+Fails P = (first : State) (start : Config) → Starts first start → P first start → ⊥
+
+abbrev pub FailsTiming : (Entry → Type 0) → Type 0
+FailsTiming M = Fails (λ s c. Always M c (Timing s))
+
+abbrev pub FailsProgress : (Entry → Type 0) → Type 0
+FailsProgress M = Fails (λ s c. Progress M c)
 
 -- A memory in which every word adds 1 to r0 and puts the sum into r5, and the axis powered up on it.
 abbrev pub sums : Map
@@ -91,12 +103,19 @@ sums a = Open 0x10050001
 abbrev pub summing : Config
 summing = record { processor = fresh One; card = record { map = sums; transfer = None; patience = 0 } }
 
-pub record Refused : Type 0 where
-  pub works : Promise WorksAtOnce (powered_up One sums) summing → ⊥
-  pub waits : Broken WaitsUnasked
-  pub counts : Broken MakesUpItsCount
-  pub halts : Broken HaltsBefore
-  pub card : Broken NeverUsesTheCard
-  pub fetch : Broken StaysInFetch0
-  pub halted : Broken (RefusesEveryClock refused.Halted)
-  pub transfer : Broken (RefusesEveryClock refused.Transfer)
+-- Agreement fails on that memory, where an instruction is done without a fault.
+abbrev pub FailsAgreement : (Entry → Type 0) → Type 0
+FailsAgreement M = Always M summing (Agreement (powered_up One sums)) → ⊥
+
+-- Each machine, and the parts of the promise that fail of it, each part by itself.
+pub record Refuted : Type 0 where
+  -- by a reset in decode
+  pub works : FailsAgreement WorksAtOnce
+  pub waits : FailsTiming WaitsUnasked × FailsProgress WaitsUnasked
+  -- by the count alone
+  pub counts : Fails (λ s c. Always MakesUpItsCount c (Counted s))
+  pub halts : FailsAgreement HaltsBefore × FailsTiming HaltsBefore
+  pub card : FailsTiming NeverUsesTheCard × FailsProgress NeverUsesTheCard
+  pub fetch : FailsTiming StaysInFetch0 × FailsProgress StaysInFetch0
+  pub halted : Fails (λ s c. Always (RefusesEveryClock refused.Halted) c Refusing) × FailsProgress (RefusesEveryClock refused.Halted)
+  pub transfer : Fails (λ s c. Always (RefusesEveryClock refused.Transfer) c Refusing) × FailsProgress (RefusesEveryClock refused.Transfer)

@@ -5,10 +5,10 @@ ghost use Rattle.machine.specs.Axes.{axis_of};
 ghost use Rattle.machine.specs.Registers.{read};
 ghost use Rattle.clocked.specs.Calls.{PoweredUp};
 ghost use Rattle.clocked.specs.Control.{named};
-ghost use Rattle.clocked.specs.Changes.{settled};
+ghost use Rattle.clocked.specs.Changes.{written_back};
 ghost use Rattle.clocked.specs.Processor.{registers_of};
 ghost use Rattle.clocked.specs.Promise.{Promised};
-ghost use Rattle.clocked.specs.Wrong.{Refused};
+ghost use Rattle.clocked.specs.Wrong.{Refuted};
 
 use super::control::{Control, ControlState};
 use super::pending::Pending;
@@ -25,7 +25,7 @@ mod service;
 pub struct Processor {
     axis: Axis,
     registers: Registers,
-    // a result that the next boundary clock stores
+    // a result that is not yet in its register
     pending: Option<Pending>,
     flags: Flags,
     pc: u32,
@@ -39,21 +39,14 @@ pub struct Processor {
 
 impl Processor {
     // A processor at the boundary, with registers, flags and PC zero; it cancels the card's transfer. Refused unless the
-    // axis is 1, 2 or 3. What is promised of every run from here on is `Promised`, and what that refuses is `Refused`.
+    // axis is 1, 2 or 3. What is promised of every run from here on is `Promised`; `Refuted` shows wrong machines to break it.
     #[tactic(auto, using(crate::proofs::Theorem::promised, crate::proofs::Refuted::refuted))]
     pub fn power_up<C: Card>(axis: u32, card: &mut C) -> Result<Processor, Refusal>
         ensures powered { PoweredUp axis (C.Cells.meaning card.old)
             result (C.Cells.meaning card.new) }
         ensures promise { Promised (axis_of axis) (C.Cells.meaning card.old)
             result (C.Cells.meaning card.new) }
-        ensures refused { Refused }
-    {
-        Processor::start(axis, card)
-    }
-
-    fn start<C: Card>(axis: u32, card: &mut C) -> Result<Processor, Refusal>
-        ensures { PoweredUp axis (C.Cells.meaning card.old)
-            result (C.Cells.meaning card.new) }
+        ensures refuted { Refuted }
     {
         let axis = Axis::try_from(axis)?;
         card.cancel();
@@ -71,8 +64,8 @@ impl Processor {
     }
 
     // Stores a pending result in its register.
-    fn settle(&mut self)
-        ensures { self.new ≡ settled self.old }
+    fn write_back(&mut self)
+        ensures { self.new ≡ written_back self.old }
     {
         if let Some(pending) = self.pending.take() {
             self.registers.store(pending.register, pending.word);

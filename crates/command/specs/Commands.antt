@@ -3,13 +3,13 @@
 -- A reader must believe the operands of each command and their limits.
 use Rattle.std.specs.Prelude.{◌≡◌, ℕ, ◌+◌, ◌^◌, cond, ◌⊎◌, List, [], ◌∷◌, Ok, Err, vec_items, Result, nat_le}
 use Rattle.command.specs.declared.Command.{Command}
-use Rattle.command.specs.declared.Command.TheVariants.{Card, Words, Layer, Load, PowerInstruction, Instruction, Reset, Registers}
-use Rattle.command.specs.declared.Command.TheVariants.{Flags, Pc, Fault, Look, Memory, Place}
+use Rattle.command.specs.declared.Command.TheVariants.{Card, Words, Layer, Load, Power, Clock, Instruction, Reset, Draw, Set, Give}
+use Rattle.command.specs.declared.Command.TheVariants.{Registers, Flags, Pc, Fault, Look, Memory, Place}
 use Rattle.layer.specs.declared.kind.Kind.TheVariants.{Offset, Guard, Slow}
 use Rattle.command.specs.declared.Wrong.{Wrong}
-use Rattle.command.specs.declared.Wrong.TheVariants.{MissingOperand, ExtraOperand, UnknownLayer, UnknownMachine}
-use Rattle.command.specs.declared.Wrong.TheVariants.{CardTooLarge, SlowTooLarge, PastLastAddress, NoMemory}
-use Rattle.command.specs.Operands.{operand_of, bottom_of, numbers_of}
+use Rattle.command.specs.declared.Wrong.TheVariants.{MissingOperand, ExtraOperand, UnknownLayer}
+use Rattle.command.specs.declared.Wrong.TheVariants.{CardTooLarge, SlowTooLarge, RegisterTooLarge, PastLastAddress, NoMemory}
+use Rattle.command.specs.Operands.{operand_of, count_of, bottom_of, machine_of, numbers_of}
 use Rattle.command.specs.Words.{spells}
 
 -- what a line is parsed to; `words` and `load` are commands too, with a list for the code's vector
@@ -25,9 +25,13 @@ parsed_command (Card kind n) = command (Card kind n)
 parsed_command (Words a v) = words a (vec_items v)
 parsed_command (Layer kind) = command (Layer kind)
 parsed_command (Load v) = load (vec_items v)
-parsed_command (PowerInstruction axis) = command (PowerInstruction axis)
+parsed_command (Power kind axis) = command (Power kind axis)
+parsed_command (Clock n) = command (Clock n)
 parsed_command (Instruction n) = command (Instruction n)
 parsed_command Reset = command Reset
+parsed_command Draw = command Draw
+parsed_command (Set n w) = command (Set n w)
+parsed_command Give = command Give
 parsed_command Registers = command Registers
 parsed_command Flags = command Flags
 parsed_command Pc = command Pc
@@ -92,16 +96,19 @@ abbrev pub load_of : List (List ℕ) → Parsed
 load_of [] = wrong MissingOperand
 load_of (w ∷ ws) = only ws (load w)
 
-abbrev pub power_instruction_of : List (List ℕ) → Parsed
-power_instruction_of ws = number ws (λ axis ws. only ws (command (PowerInstruction axis)))
-
 abbrev pub power_of : List (List ℕ) → Parsed
-power_of [] = wrong MissingOperand
-power_of (w ∷ ws) = cond (spells w "instruction") (power_instruction_of ws) (wrong UnknownMachine)
+power_of ws = taking (machine_of ws) (λ kind ws. number ws (λ axis ws. only ws (command (Power kind axis))))
+
+abbrev pub clock_of : List (List ℕ) → Parsed
+clock_of ws = taking (count_of ws) (λ n ws. only ws (command (Clock n)))
 
 abbrev pub instruction_of : List (List ℕ) → Parsed
-instruction_of [] = command (Instruction 1)
-instruction_of (w ∷ ws) = number (w ∷ ws) (λ n ws. only ws (command (Instruction n)))
+instruction_of ws = taking (count_of ws) (λ n ws. only ws (command (Instruction n)))
+
+abbrev pub set_of : List (List ℕ) → Parsed
+set_of ws =
+    number ws
+    (λ n ws. cond (nat_le n 255) (number ws (λ w ws. only ws (command (Set n w)))) (wrong RegisterTooLarge))
 
 abbrev pub look_of : List (List ℕ) → Parsed
 look_of ws = number ws (λ a ws. only ws (command (Look a)))

@@ -3,8 +3,8 @@
 use Rattle.std.specs.Prelude.{ℕ, cond, List, Some, None, Option}
 use Rattle.command.specs.Words.{spells}
 use Rattle.command.specs.declared.keyword.Keyword.{Keyword}
-use Rattle.command.specs.declared.keyword.Keyword.TheVariants.{Card, Words, Layer, Load, Power, Instruction, Reset, Registers}
-use Rattle.command.specs.declared.keyword.Keyword.TheVariants.{Flags, Pc, Fault, Look, Memory, Place}
+use Rattle.command.specs.declared.keyword.Keyword.TheVariants.{Card, Words, Layer, Load, Power, Clock, Instruction, Reset, Draw, Set, Give}
+use Rattle.command.specs.declared.keyword.Keyword.TheVariants.{Registers, Flags, Pc, Fault, Look, Memory, Place}
 
 abbrev pub keyword_of : List ℕ → Option Keyword
 keyword_of w =
@@ -13,8 +13,12 @@ keyword_of w =
     (cond (spells w "layer") (Some Layer)
     (cond (spells w "load") (Some Load)
     (cond (spells w "power") (Some Power)
+    (cond (spells w "clock") (Some Clock)
     (cond (spells w "instruction") (Some Instruction)
     (cond (spells w "reset") (Some Reset)
+    (cond (spells w "draw") (Some Draw)
+    (cond (spells w "set") (Some Set)
+    (cond (spells w "give") (Some Give)
     (cond (spells w "registers") (Some Registers)
     (cond (spells w "flags") (Some Flags)
     (cond (spells w "pc") (Some Pc)
@@ -22,4 +26,4 @@ keyword_of w =
     (cond (spells w "look") (Some Look)
     (cond (spells w "memory") (Some Memory)
     (cond (spells w "place") (Some Place)
-    None)))))))))))))
+    None)))))))))))))))))

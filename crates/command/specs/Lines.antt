@@ -7,11 +7,12 @@ use Rattle.command.specs.declared.Command.TheVariants as the
 use Rattle.command.specs.declared.Wrong.{Wrong}
 use Rattle.command.specs.declared.Wrong.TheVariants.{BadByte, UnknownCommand, NoMemory}
 use Rattle.command.specs.declared.keyword.Keyword.{Keyword}
-use Rattle.command.specs.declared.keyword.Keyword.TheVariants.{Card, Words, Layer, Load, Power, Instruction, Reset, Registers}
-use Rattle.command.specs.declared.keyword.Keyword.TheVariants.{Flags, Pc, Fault, Look, Memory, Place}
+use Rattle.command.specs.declared.keyword.Keyword.TheVariants.{Card, Words, Layer, Load, Power, Clock, Instruction, Reset, Draw, Set, Give}
+use Rattle.command.specs.declared.keyword.Keyword.TheVariants.{Registers, Flags, Pc, Fault, Look, Memory, Place}
 use Rattle.command.specs.Keywords.{keyword_of}
 use Rattle.command.specs.Commands.{Parsed, nothing, command, wrong, parsed_command, only}
-use Rattle.command.specs.Commands.{card_of, store_of, layer_of, load_of, power_of, instruction_of, look_of, memory_of, place_of}
+use Rattle.command.specs.Commands.{card_of, store_of, layer_of, load_of, power_of, clock_of, instruction_of, set_of}
+use Rattle.command.specs.Commands.{look_of, memory_of, place_of}
 use Rattle.command.specs.Words.{before_comment, any_bad, words_of}
 
 -- what the words after a keyword are parsed to
@@ -21,8 +22,12 @@ operands_of Words ws = store_of ws
 operands_of Layer ws = layer_of ws
 operands_of Load ws = load_of ws
 operands_of Power ws = power_of ws
+operands_of Clock ws = clock_of ws
 operands_of Instruction ws = instruction_of ws
 operands_of Reset ws = only ws (command the.Reset)
+operands_of Draw ws = only ws (command the.Draw)
+operands_of Set ws = set_of ws
+operands_of Give ws = only ws (command the.Give)
 operands_of Registers ws = only ws (command the.Registers)
 operands_of Flags ws = only ws (command the.Flags)
 operands_of Pc ws = only ws (command the.Pc)

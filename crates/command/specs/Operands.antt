@@ -4,9 +4,11 @@ use Rattle.std.specs.Prelude.{◌≡◌, ℕ, ◌<◌, cond, ◌⊎◌, List, []
 use Rattle.std.specs.Borrow.{Bor}
 use Rattle.std.specs.declared.alloc.Global.{Global}
 use Rattle.command.specs.declared.Wrong.{Wrong}
-use Rattle.command.specs.declared.Wrong.TheVariants.{MissingOperand, UnknownCard, NoMemory}
+use Rattle.command.specs.declared.Wrong.TheVariants.{MissingOperand, UnknownCard, UnknownMachine, NoMemory}
 use Rattle.command.specs.declared.Bottom.{Bottom}
 use Rattle.command.specs.declared.Bottom.TheVariants.{Word, Boot}
+use Rattle.command.specs.declared.MachineKind.{MachineKind}
+use Rattle.command.specs.declared.MachineKind.TheVariants.{ByClock, ByInstruction}
 use Rattle.command.specs.Numbers.{number_of}
 use Rattle.command.specs.Words.{spells}
 
@@ -18,6 +20,11 @@ with (Err e) ws = Err e
 abbrev pub operand_of : List (List ℕ) → Result (ℕ × List (List ℕ)) Wrong
 operand_of [] = Err MissingOperand
 operand_of (w ∷ ws) = with (number_of w) ws
+
+-- the same, or 1 where there is no word
+abbrev pub count_of : List (List ℕ) → Result (ℕ × List (List ℕ)) Wrong
+count_of [] = Ok (1, [])
+count_of (w ∷ ws) = operand_of (w ∷ ws)
 
 -- r is the operand that s gives, and ws are the words after it
 abbrev pub Takes : {X : Type 0} → Result X Wrong → List (List ℕ) → Result (X × List (List ℕ)) Wrong → Type 0
@@ -34,6 +41,14 @@ bottom_named w = cond (spells w "word") (Ok Word) (cond (spells w "boot") (Ok Bo
 abbrev pub bottom_of : List (List ℕ) → Result (Bottom × List (List ℕ)) Wrong
 bottom_of [] = Err MissingOperand
 bottom_of (w ∷ ws) = with (bottom_named w) ws
+
+abbrev pub machine_named : List ℕ → Result MachineKind Wrong
+machine_named w = cond (spells w "clock") (Ok ByClock) (cond (spells w "instruction") (Ok ByInstruction) (Err UnknownMachine))
+
+-- the machine that the words begin with, and the other words
+abbrev pub machine_of : List (List ℕ) → Result (MachineKind × List (List ℕ)) Wrong
+machine_of [] = Err MissingOperand
+machine_of (w ∷ ws) = with (machine_named w) ws
 
 -- the numbers of all the words, after those of ns; the first word that is none decides
 abbrev pub numbers_after : List ℕ → List (List ℕ) → Result (List ℕ) Wrong

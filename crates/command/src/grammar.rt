@@ -1,13 +1,12 @@
 // What follows the first word of each command. The heap is passed to those functions alone that may allocate.
 ghost use Rattle.std.specs.Prelude.{◌≡◌, ◌<◌, length, Some, []};
 ghost use Rattle.command.specs.Commands.{parsed, ParsesTo, card_of, store_of, layer_of, slow_of, load_of, power_of};
-ghost use Rattle.command.specs.Commands.{instruction_of, memory_of};
+ghost use Rattle.command.specs.Commands.{set_of, memory_of};
 ghost use Rattle.command.specs.Lines.{operands_of, NeedsMemory, ReadsWords};
 
 use crate::keyword::Keyword;
-use crate::number::number;
 use crate::words::Words;
-use crate::{Bottom, Command, Wrong};
+use crate::{Bottom, Command, MachineKind, Wrong};
 use layer::Kind;
 use std::alloc::Global;
 
@@ -45,8 +44,12 @@ fn with_operands(heap: Global, keyword: Keyword, words: &mut Words<'_>) -> Resul
         Keyword::Layer => layer(words),
         Keyword::Load => load(heap, words),
         Keyword::Power => power(words),
-        Keyword::Instruction => instruction(words),
+        Keyword::Clock => Ok(Command::Clock(words.count()?)),
+        Keyword::Instruction => Ok(Command::Instruction(words.count()?)),
         Keyword::Reset => Ok(Command::Reset),
+        Keyword::Draw => Ok(Command::Draw),
+        Keyword::Set => set(words),
+        Keyword::Give => Ok(Command::Give),
         Keyword::Registers => Ok(Command::Registers),
         Keyword::Flags => Ok(Command::Flags),
         Keyword::Pc => Ok(Command::Pc),
@@ -106,18 +109,15 @@ fn load(heap: Global, words: &mut Words<'_>) -> Result<Command, Wrong>
 fn power(words: &mut Words<'_>) -> Result<Command, Wrong>
     ensures { parsed result words.new ≡ power_of words.old }
 {
-    // in place of a `match`, whose proof does not close for a text of eleven bytes followed by `?`
-    if words.operand()? != b"instruction".as_slice() {
-        return Err(Wrong::UnknownMachine);
-    }
-    Ok(Command::PowerInstruction(words.number()?))
+    let kind = MachineKind::try_from(words.operand()?)?;
+    Ok(Command::Power(kind, words.number()?))
 }
 
-fn instruction(words: &mut Words<'_>) -> Result<Command, Wrong>
-    ensures { parsed result words.new ≡ instruction_of words.old }
+fn set(words: &mut Words<'_>) -> Result<Command, Wrong>
+    ensures { parsed result words.new ≡ set_of words.old }
 {
-    let count = words.next().map_or(Ok(1), number)?;
-    Ok(Command::Instruction(count))
+    let register = u8::try_from(words.number()?).map_err(|_| Wrong::RegisterTooLarge)?;
+    Ok(Command::Set(register, words.number()?))
 }
 
 fn memory(words: &mut Words<'_>) -> Result<Command, Wrong>

@@ -3,7 +3,7 @@
 
 ghost use Rattle.std.specs.Prelude.{◌≡◌, Some};
 ghost use Rattle.command.specs.Lines.{Reads};
-ghost use Rattle.command.specs.Operands.{bottom_named};
+ghost use Rattle.command.specs.Operands.{bottom_named, machine_named};
 ghost use Rattle.command.specs.Texts.{text_of};
 ghost use Rattle.command.specs.declared.Wrong.TheVariants.{NoMemory};
 
@@ -41,6 +41,27 @@ impl TryFrom<&[u8]> for Bottom {
     }
 }
 
+// The machine that an axis is powered up with.
+#[derive(Clone, Copy, PartialEq, Eq, Debug)]
+pub enum MachineKind {
+    ByClock,
+    ByInstruction,
+}
+
+impl TryFrom<&[u8]> for MachineKind {
+    type Error = Wrong;
+
+    ghost try_from_gives = { λ word r. r ≡ machine_named word.now };
+
+    fn try_from(word: &[u8]) -> Result<Self, Wrong> {
+        match word {
+            b"clock" => Ok(MachineKind::ByClock),
+            b"instruction" => Ok(MachineKind::ByInstruction),
+            _ => Err(Wrong::UnknownMachine),
+        }
+    }
+}
+
 #[derive(Debug, Drop)]
 pub enum Command {
     // a bottom card over so many zero words
@@ -51,11 +72,19 @@ pub enum Command {
     Layer(Kind),
     // an image, by its file's name, as the bytes of the line
     Load(Vec<u8>),
-    // the instruction machine on this axis
-    PowerInstruction(u32),
+    // a machine on this axis
+    Power(MachineKind, u32),
+    // at most so many clocks
+    Clock(u32),
     // at most so many instructions
     Instruction(u32),
     Reset,
+    // the service key out
+    Draw,
+    // this word in this register, with the key
+    Set(u8, u32),
+    // the service key back
+    Give,
     Registers,
     Flags,
     Pc,
@@ -82,6 +111,7 @@ pub enum Wrong {
     NumberTooLarge,
     CardTooLarge,
     SlowTooLarge,
+    RegisterTooLarge,
     PastLastAddress,
     NoMemory,
 }
@@ -95,13 +125,14 @@ impl Wrong {
             Wrong::UnknownCommand => "no such command",
             Wrong::UnknownCard => "no such card, only word and boot",
             Wrong::UnknownLayer => "no such layer, only offset, guard and slow",
-            Wrong::UnknownMachine => "no such machine, only instruction",
+            Wrong::UnknownMachine => "no such machine, only clock and instruction",
             Wrong::MissingOperand => "an operand is missing",
             Wrong::ExtraOperand => "an operand too many",
             Wrong::NotANumber => "not a number",
             Wrong::NumberTooLarge => "the number is past 4294967295",
             Wrong::CardTooLarge => "the card is over 65536 words",
             Wrong::SlowTooLarge => "the waits are over 255",
+            Wrong::RegisterTooLarge => "the register is over 255",
             Wrong::PastLastAddress => "a cell is past address 0xffffffff",
             Wrong::NoMemory => "no memory is left",
         }

@@ -2,7 +2,7 @@
 ghost use Rattle.std.specs.Prelude.{◌≡◌, ℕ, ◌<◌, List, [], length, MatchResult, OnOk};
 ghost use Rattle.std.specs.Iterator.{YieldsFirstRef, item_count};
 ghost use Rattle.command.specs.Words.{words_of, blank};
-ghost use Rattle.command.specs.Operands.{operand_of, Takes, TakesWord, Listed};
+ghost use Rattle.command.specs.Operands.{operand_of, count_of, Takes, TakesWord, Listed};
 ghost use Rattle.command.specs.declared.Wrong.TheVariants.{ExtraOperand};
 
 use crate::Wrong;
@@ -63,6 +63,13 @@ impl<'a> Words<'a> {
         ensures { Takes result self.new (operand_of self.old) }
     {
         number(self.operand()?)
+    }
+
+    // How often, which is once where no word is left.
+    pub fn count(&mut self) -> Result<u32, Wrong>
+        ensures { Takes result self.new (count_of self.old) }
+    {
+        self.next().map_or(Ok(1), number)
     }
 
     // The numbers of all words that are left.

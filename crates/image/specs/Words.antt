@@ -26,7 +26,8 @@ OpenFrom f first last = (a : ℕ) → first ≤ a → a < last → cell_is_open 
 abbrev pub addresses : ℕ → List ℕ → List ℕ
 addresses offset part = map (λ k. offset + k) (range_with_len 0 (words_in part))
 
--- The first address of a segment at the offset that is not open, if any.
+-- The first address of a segment at the offset that is not open, if any. This serves a private function alone; the public call
+-- says `FirstClosed` of Placing.antt.
 abbrev pub closed_in : Map → ℕ → List ℕ → Option ℕ
 closed_in f offset part = find (λ a. not (cell_is_open (f a))) (addresses offset part)
 

@@ -1,20 +1,22 @@
 -- The meaning of the tests' own card, which has a cell at every address.
 -- A reader must believe: nothing; no promise of the library rests on it.
-use Rattle.std.specs.Prelude.{ℕ, ◌-◌, ◌^◌, ◌≤◌, cond, ◌&&◌, List, Option, nat_le, nat_lt, slice_index}
-use Rattle.std.proofs.Common.{lit≤}
+use Rattle.std.specs.Prelude.{ℕ, ◌+◌, ◌-◌, ◌^◌, ◌≤◌, min, cond, ◌&&◌, List, Option, nat_le, nat_lt, slice_index}
+use Rattle.std.proofs.Common.{arith}
 use Rattle.card.specs.declared.cell.Cell.TheVariants.{Fixed, Open}
+use Rattle.card.specs.declared.cell.Origin.{Origin}
 use Rattle.card.specs.declared.transfer.Transfer.{Transfer}
-use Rattle.card.specs.Bottom.{here}
 use Rattle.card.specs.Ends.{Map}
 use Rattle.card.specs.Meaning.{Meaning}
 
-abbrev pub edge_cells : List ℕ → List ℕ → Map
-edge_cells first last a =
+abbrev pub edge_cells : List ℕ → List ℕ → ℕ → Map
+edge_cells first last layers a =
     cond (nat_lt a 8) (Open (slice_index first a))
-    (cond (nat_le 0xffff_fff8 a && nat_lt a (2 ^ 32)) (Open (slice_index last (a - 0xffff_fff8))) (Fixed 0 (here a)))
+    (cond (nat_le 0xffff_fff8 a && nat_lt a (2 ^ 32)) (Open (slice_index last (a - 0xffff_fff8)))
+    (Fixed 0 (record { address = a; layer = layers })))
 
-abbrev pub edge_meaning : List ℕ → List ℕ → Option Transfer → Meaning
-edge_meaning first last t = record { map = edge_cells first last; transfer = t; patience = 3 }
+abbrev pub edge_meaning : List ℕ → List ℕ → ℕ → ℕ → Option Transfer → Meaning
+edge_meaning first last layers more t =
+    record { map = edge_cells first last layers; transfer = t; patience = min more 4093 + 3 }
 
-pub patient : 3 ≤ 4096
-patient = lit≤ tt
+pub patient : (more : ℕ) → min more 4093 + 3 ≤ 4096
+patient more = omega arith

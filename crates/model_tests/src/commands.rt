@@ -1,9 +1,9 @@
 // Lines, and what `read` answers, each by its debug text, so that a row stays a line.
-use command::{Bottom, Wrong, read};
+use command::{Bottom, MachineKind, Wrong, read};
 use std::alloc::{AllocError, AllocFailed};
 use std::test::Fail;
 
-static LINES: [(&[u8], &str); 99] = [
+static LINES: [(&[u8], &str); 119] = [
     (
         b"layer offset 0xffffffff",
         "Ok(Some(Layer(Offset(4294967295))))",
@@ -36,12 +36,23 @@ static LINES: [(&[u8], &str); 99] = [
         b"words 3 0x20010000 4096 0",
         "Ok(Some(Words(3, [536936448, 4096, 0])))",
     ),
-    (b"power instruction 1", "Ok(Some(PowerInstruction(1)))"),
-    (b"power instruction 257", "Ok(Some(PowerInstruction(257)))"),
+    (b"power instruction 1", "Ok(Some(Power(ByInstruction, 1)))"),
+    (
+        b"power instruction 257",
+        "Ok(Some(Power(ByInstruction, 257)))",
+    ),
+    (b"power clock 3", "Ok(Some(Power(ByClock, 3)))"),
+    (b"clock", "Ok(Some(Clock(1)))"),
+    (b"clock 0", "Ok(Some(Clock(0)))"),
+    (b"clock 4294967295", "Ok(Some(Clock(4294967295)))"),
     (b"instruction", "Ok(Some(Instruction(1)))"),
     (b"instruction 0", "Ok(Some(Instruction(0)))"),
     (b"instruction 5", "Ok(Some(Instruction(5)))"),
     (b"reset", "Ok(Some(Reset))"),
+    (b"draw", "Ok(Some(Draw))"),
+    (b"set 0 0", "Ok(Some(Set(0, 0)))"),
+    (b"set 0xff 0xffffffff", "Ok(Some(Set(255, 4294967295)))"),
+    (b"give", "Ok(Some(Give))"),
     (b"registers", "Ok(Some(Registers))"),
     (b"flags", "Ok(Some(Flags))"),
     (b"pc", "Ok(Some(Pc))"),
@@ -79,7 +90,7 @@ static LINES: [(&[u8], &str); 99] = [
     (b"pcs", "Err(UnknownCommand)"),
     (b"p c", "Err(UnknownCommand)"),
     (b"42", "Err(UnknownCommand)"),
-    (b"clock 1", "Err(UnknownCommand)"),
+    (b"clocks 1", "Err(UnknownCommand)"),
     (b"pc\x0b", "Err(UnknownCommand)"),
     (b"card", "Err(MissingOperand)"),
     (b"card word", "Err(MissingOperand)"),
@@ -96,11 +107,23 @@ static LINES: [(&[u8], &str); 99] = [
     (b"words 0 1 4294967296 x", "Err(NumberTooLarge)"),
     (b"power", "Err(MissingOperand)"),
     (b"power instruction", "Err(MissingOperand)"),
-    (b"power clock 1", "Err(UnknownMachine)"),
+    (b"power clock", "Err(MissingOperand)"),
+    (b"power clocks 1", "Err(UnknownMachine)"),
+    (b"clock 1 2", "Err(ExtraOperand)"),
+    (b"clock -1", "Err(NotANumber)"),
     (b"power instruction 1 2", "Err(ExtraOperand)"),
     (b"instruction 1 2", "Err(ExtraOperand)"),
     (b"instruction x", "Err(NotANumber)"),
     (b"reset 1", "Err(ExtraOperand)"),
+    (b"draw 1", "Err(ExtraOperand)"),
+    (b"give 1", "Err(ExtraOperand)"),
+    (b"set", "Err(MissingOperand)"),
+    (b"set 1", "Err(MissingOperand)"),
+    (b"set 256", "Err(RegisterTooLarge)"),
+    (b"set 256 x", "Err(RegisterTooLarge)"),
+    (b"set 4294967296 1", "Err(NumberTooLarge)"),
+    (b"set r1 1", "Err(NotANumber)"),
+    (b"set 1 2 3", "Err(ExtraOperand)"),
     (b"look", "Err(MissingOperand)"),
     (b"look 1 2", "Err(ExtraOperand)"),
     (b"look -1", "Err(NotANumber)"),
@@ -130,11 +153,19 @@ fn lines_are_read(rt: HostRuntime) -> Result<(), Fail> {
 }
 
 #[test]
-fn cards_have_names(rt: HostRuntime) {
+fn cards_and_machines_have_names(rt: HostRuntime) {
     assert_eq!(rt; Bottom::try_from(b"boot".as_slice()), Ok(Bottom::Boot));
     assert_eq!(rt;
         Bottom::try_from(b"Boot".as_slice()),
         Err(Wrong::UnknownCard)
+    );
+    assert_eq!(rt;
+        MachineKind::try_from(b"clock".as_slice()),
+        Ok(MachineKind::ByClock)
+    );
+    assert_eq!(rt;
+        MachineKind::try_from(b"Clock".as_slice()),
+        Err(Wrong::UnknownMachine)
     );
 }
 

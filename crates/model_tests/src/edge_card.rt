@@ -1,7 +1,8 @@
 // A card with a cell at every address: the eight first and the eight last addresses are open, all others hold a fixed
-// zero. Its transfers wait by their address, up to three times. Its begin, poll and cancel are nearly a layer's. What these share
-// stands in `after_wait` and `finish`; one type for both, over cells and waits, would be longer than the few lines.
-ghost use Rattle.std.specs.Prelude.{◌≡◌, ◌≤◌};
+// zero. Its transfers wait by their address, up to three times. It can stand for a card under layers of its own, whose transfers all
+// wait so many times more and whose origins have so many layers above them. Its begin, poll and cancel are nearly a layer's. What
+// these share stands in `after_wait` and `finish`; one type for both, over cells and waits, would be longer than the few lines.
+ghost use Rattle.std.specs.Prelude.{◌≡◌, ◌≤◌, min};
 ghost use Rattle.model_tests.specs.Edge.{edge_meaning, patient};
 
 use card::{Card, Cell, Cells, End, Origin, Request, Transfer, finish};
@@ -11,6 +12,9 @@ use refusal::Refusal;
 pub struct EdgeCard {
     first: [u32; 8],
     last: [u32; 8],
+    // taken as at most 4,093, so that the patience stays within its bound
+    more: u16,
+    layers: u8,
     transfer: Option<Transfer>,
 }
 
@@ -19,15 +23,32 @@ impl EdgeCard {
         EdgeCard {
             first,
             last,
+            more: 0,
+            layers: 0,
             transfer: None,
         }
+    }
+
+    // Zeros, under so many layers that add so many waits.
+    pub fn under(layers: u8, more: u16) -> EdgeCard {
+        EdgeCard {
+            more,
+            layers,
+            ..EdgeCard::new([0; 8], [0; 8])
+        }
+    }
+
+    fn more(&self) -> u16
+        ensures { result ≡ min self.now.more 4093 }
+    {
+        self.more.min(4093)
     }
 }
 
 impl Cells for EdgeCard {
-    ghost meaning = { λ c. edge_meaning c.first c.last c.transfer };
+    ghost meaning = { λ c. edge_meaning c.first c.last c.layers c.more c.transfer };
 
-    ghost bounded = { λ _. patient };
+    ghost bounded = { λ c. patient c.more };
 
     fn look(&self, address: u32) -> Cell {
         if address < 8 {
@@ -35,12 +56,18 @@ impl Cells for EdgeCard {
         } else if address >= 0xffff_fff8 {
             Cell::Open(self.last[(address - 0xffff_fff8) as usize])
         } else {
-            Cell::Fixed(0, Origin { address, layer: 0 })
+            Cell::Fixed(
+                0,
+                Origin {
+                    address,
+                    layer: self.layers,
+                },
+            )
         }
     }
 
     fn patience(&self) -> u16 {
-        3
+        self.more() + 3
     }
 
     fn place(&mut self, address: u32, word: u32) -> Result<(), Refusal> {
@@ -61,7 +88,7 @@ impl Card for EdgeCard {
         if self.transfer.is_some() {
             return Err(Refusal::Transfer);
         }
-        let waits = (request.address % 4) as u16;
+        let waits = self.more() + (request.address % 4) as u16;
         self.transfer = Some(Transfer { request, waits });
         Ok(waits)
     }

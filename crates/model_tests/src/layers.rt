@@ -116,6 +116,54 @@ fn waits_through_a_stack(rt: HostRuntime) -> Result<(), Fail> {
     Ok(())
 }
 
+// The longest transfer takes as long as the patience, and the one at address 0 three waits less.
+fn waits_up_to<C: Card>(rt: &impl Abort, card: &mut C, patience: u16) -> Result<(), Fail> {
+    assert_eq!(rt; card.patience(), patience);
+    assert_eq!(rt; waited(rt, card, Direction::Read, 3)?, (patience, Ok(0)));
+    assert_eq!(rt;
+        waited(rt, card, Direction::Read, 0)?,
+        (patience.saturating_sub(3), Ok(0))
+    );
+    Ok(())
+}
+
+// The waits of slow layers stop at 4,096: three of 255 on a card that waits as under fourteen of them, and a further one.
+#[test]
+fn waits_stop_at_their_most(rt: HostRuntime) -> Result<(), Fail> {
+    let mut fourteen = EdgeCard::under(14, 14 * 255 - 3);
+    waits_up_to(&rt, &mut fourteen, 3570)?;
+    let mut fifteen = Layer::new(Kind::Slow(255), fourteen);
+    waits_up_to(&rt, &mut fifteen, 3825)?;
+    let mut sixteen = Layer::new(Kind::Slow(255), fifteen);
+    waits_up_to(&rt, &mut sixteen, 4080)?;
+    let mut seventeen = Layer::new(Kind::Slow(255), sixteen);
+    waits_up_to(&rt, &mut seventeen, 4096)?;
+    let mut eighteen = Layer::new(Kind::Slow(255), seventeen);
+    waits_up_to(&rt, &mut eighteen, 4096)
+}
+
+// The layer number of an origin that has so many layers above it already, seen through two more and through three.
+#[test]
+fn layer_numbers_stop_at_255(rt: HostRuntime) -> Result<(), Fail> {
+    for (layers, through_two, through_three) in [
+        (252, 254, 255),
+        (253, 255, 255),
+        (254, 255, 255),
+        (255, 255, 255),
+    ] {
+        let below = Layer::new(Kind::Slow(0), EdgeCard::under(layers, 0));
+        let two = Layer::new(Kind::Guard(0, 9), below);
+        assert_eq!(rt; two.look(9), fixed(0, 9, through_two));
+        let mut three = Layer::new(Kind::Offset(1), two);
+        assert_eq!(rt; three.look(9), fixed(0, 8, through_three));
+        assert_eq!(rt;
+            waited(&rt, &mut three, Direction::Write(5), 9)?,
+            (0, fault(Cause::Fixed, 8, through_three))
+        );
+    }
+    Ok(())
+}
+
 // Making a layer cancels the transfer below, and cancelling the layer's own leaves the cells.
 #[test]
 fn made_during_a_transfer(rt: HostRuntime) -> Result<(), Fail> {

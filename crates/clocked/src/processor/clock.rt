@@ -6,11 +6,11 @@ ghost use Rattle.machine.specs.declared.machine.Outcome.TheVariants.{Done, Halte
 ghost use Rattle.machine.specs.State.{plus};
 ghost use Rattle.clocked.specs.declared.control.Control.TheVariants.{Fetch0, Fetch1};
 ghost use Rattle.clocked.specs.declared.tick.Answer.TheVariants.{On, Ended};
-ghost use Rattle.clocked.specs.Advance.{Advanced, PollsIn};
+ghost use Rattle.clocked.specs.Advance.{Advanced, PolledFor};
 ghost use Rattle.clocked.specs.Calls.{Clocked};
 ghost use Rattle.clocked.specs.Control.{reads_at};
-ghost use Rattle.clocked.specs.Changes.{going, going_at, noting, settled, halting};
-ghost use Rattle.clocked.specs.Table.{decodes, executes, latches, branches, completes};
+ghost use Rattle.clocked.specs.Changes.{going, going_at, noting, written_back, halting};
+ghost use Rattle.clocked.specs.Table.{row_of, decodes, executes, latches, branches, completes};
 
 use super::Processor;
 use crate::access::Access;
@@ -41,56 +41,69 @@ impl Processor {
         Ok(Tick { state, answer })
     }
 
-    // The row of the state, by what the card answers where it is polled.
+    // Matches the control state and what the card answers where it is polled. Apart from the refusals above, since a goal that has
+    // both takes the search for proofs to its limits.
     fn advance<C: Card>(&mut self, card: &mut C) -> Result<Answer, Refusal>
         ensures { Advanced self.old (C.Cells.meaning card.old)
             result self.new (C.Cells.meaning card.new) }
     {
-        match (self.control, poll_in(self.control, card)?) {
-            (Control::Fetch0, _) => Ok(self.fetch()),
+        let answer = match (self.control, self.poll(card)?) {
+            (Control::Fetch0, _) => self.fetch(),
             (Control::Fetch1, _) => {
                 card.begin(read_at(self.pc))?;
-                Ok(self.step_to(Control::Fetch2))
+                self.step_to(Control::Fetch2)
             }
             (Control::Fetch2, Some(Ok(word))) => {
-                Ok(self.go(Control::Decode(Instruction::from(word))))
+                self.go(Control::Decode(Instruction::from(word)))
             }
-            (Control::Fetch2, Some(Err(why))) => Ok(self.halt(Stage::Fetch, self.start, why)),
-            (Control::Decode(instruction), _) => Ok(self.decode(instruction)),
-            (Control::DispFetch0(instruction), _) => Ok(self.go(Control::DispFetch1(instruction))),
+            (Control::Fetch2, Some(Err(why))) => self.halt(Stage::Fetch, self.start, why),
+            (Control::Decode(instruction), _) => self.decode(instruction),
+            (Control::DispFetch0(instruction), _) => self.go(Control::DispFetch1(instruction)),
             (Control::DispFetch1(instruction), _) => {
                 card.begin(read_at(self.pc))?;
-                Ok(self.step_to(Control::DispFetch2(instruction)))
+                self.step_to(Control::DispFetch2(instruction))
             }
             (Control::DispFetch2(instruction), Some(Ok(displacement))) => {
-                Ok(self.go(Control::Execute0(instruction, displacement)))
+                self.go(Control::Execute0(instruction, displacement))
             }
             (Control::DispFetch2(_), Some(Err(why))) => {
-                Ok(self.halt(Stage::Displacement, self.start.wrapping_add(1), why))
+                self.halt(Stage::Displacement, self.start.wrapping_add(1), why)
             }
             (Control::Execute0(instruction, displacement), _) => {
-                Ok(self.execute(instruction, displacement))
+                self.execute(instruction, displacement)
             }
             (Control::Execute1(access), _) => {
                 card.begin(access.request())?;
-                Ok(self.go(Control::Execute2(access)))
+                self.go(Control::Execute2(access))
             }
-            (Control::Execute2(access), Some(Ok(word))) => Ok(self.complete(access, word)),
+            (Control::Execute2(access), Some(Ok(word))) => self.complete(access, word),
             (Control::Execute2(access), Some(Err(why))) => {
-                Ok(self.halt(access.stage(), access.request().address, why))
+                self.halt(access.stage(), access.request().address, why)
             }
             (Control::Fetch2 | Control::DispFetch2(_) | Control::Execute2(_), None) => {
-                Ok(Answer::Waiting)
+                Answer::Waiting
             }
+        };
+        Ok(answer)
+    }
+
+    // The end of the transfer in a state that polls, if it ends now; the other states do not ask.
+    fn poll<C: Card>(&self, card: &mut C) -> Result<Option<End>, Refusal>
+        ensures { PolledFor (row_of self.now.control self.now) (C.Cells.meaning card.old)
+            result (C.Cells.meaning card.new) }
+    {
+        match self.control {
+            Control::Fetch2 | Control::DispFetch2(_) | Control::Execute2(_) => card.poll(),
+            _ => Ok(None),
         }
     }
 
     // The boundary: stores a pending result and notes PC as the instruction's address.
     fn fetch(&mut self) -> Answer
         ensures answer { result ≡ On }
-        ensures after { self.new ≡ noting Fetch1 (settled self.old) }
+        ensures after { self.new ≡ noting Fetch1 (written_back self.old) }
     {
-        self.settle();
+        self.write_back();
         self.start = self.pc;
         self.go(Control::Fetch1)
     }
@@ -113,13 +126,13 @@ impl Processor {
     }
 
     // Ends the instruction, with PC at the next one.
-    fn finish(&mut self, pc: u32) -> Answer
-        ensures answer { result ≡ Ended Done }
+    fn finish(&mut self, outcome: Outcome, pc: u32) -> Answer
+        ensures answer { result ≡ Ended outcome }
         ensures after { self.new ≡ going_at Fetch0 pc self.old }
     {
         self.pc = pc;
         self.control = Control::Fetch0;
-        Answer::Ended(Outcome::Done)
+        Answer::Ended(outcome)
     }
 
     fn decode(&mut self, instruction: Instruction) -> Answer
@@ -135,12 +148,9 @@ impl Processor {
                 self.go(Control::DispFetch0(instruction))
             }
             (Class::Branch(Form::Quick) | Class::BranchIndexed(Form::Quick), false) => {
-                self.finish(self.pc)
+                self.finish(Outcome::Done, self.pc)
             }
-            (Class::Unknown, _) => {
-                self.control = Control::Fetch0;
-                Answer::Ended(Outcome::Ignored)
-            }
+            (Class::Unknown, _) => self.finish(Outcome::Ignored, self.pc),
             _ => self.go(Control::Execute0(instruction, instruction.immediate())),
         }
     }
@@ -177,10 +187,7 @@ impl Processor {
             Class::BranchIndexed(form) => {
                 self.branch(form, instruction, first.wrapping_add(displacement))
             }
-            Class::Unknown => {
-                self.control = Control::Fetch0;
-                Answer::Ended(Outcome::Ignored)
-            }
+            Class::Unknown => self.finish(Outcome::Ignored, self.pc),
         }
     }
 
@@ -195,7 +202,7 @@ impl Processor {
             word,
         });
         self.flags = Flags { v, n, z };
-        self.finish(self.pc)
+        self.finish(Outcome::Done, self.pc)
     }
 
     // To the target, or past a displacement that was not read.
@@ -205,9 +212,9 @@ impl Processor {
             (taken_by instruction.mask self.old.flags) form target self.old).1 }
     {
         match (instruction.mask.taken(self.flags), form) {
-            (true, _) => self.finish(target),
-            (false, Form::Long) => self.finish(self.pc.wrapping_add(1)),
-            (false, Form::Quick) => self.finish(self.pc),
+            (true, _) => self.finish(Outcome::Done, target),
+            (false, Form::Long) => self.finish(Outcome::Done, self.pc.wrapping_add(1)),
+            (false, Form::Quick) => self.finish(Outcome::Done, self.pc),
         }
     }
 
@@ -219,7 +226,7 @@ impl Processor {
         if let Access::Load(_, register) = access {
             self.pending = Some(Pending { register, word });
         }
-        self.finish(self.pc)
+        self.finish(Outcome::Done, self.pc)
     }
 
     // Halts with PC back at the instruction.
@@ -235,9 +242,7 @@ impl Processor {
             cause: why.cause,
             origin: why.origin,
         });
-        self.pc = self.start;
-        self.control = Control::Fetch0;
-        Answer::Ended(Outcome::Halted)
+        self.finish(Outcome::Halted, self.start)
     }
 }
 
@@ -247,15 +252,5 @@ fn read_at(address: u32) -> Request
     Request {
         direction: Direction::Read,
         address,
-    }
-}
-
-// The end of the transfer in a state that polls, if it ends now; the other states do not ask.
-fn poll_in<C: Card>(control: Control, card: &mut C) -> Result<Option<End>, Refusal>
-    ensures { PollsIn control (C.Cells.meaning card.old) result (C.Cells.meaning card.new) }
-{
-    match control {
-        Control::Fetch2 | Control::DispFetch2(_) | Control::Execute2(_) => card.poll(),
-        _ => Ok(None),
     }
 }

@@ -1,4 +1,4 @@
-// The reset, which the safety chain may pull at any clock.
+// The reset, which is accepted in every control state while the key is in.
 ghost use Rattle.clocked.specs.Calls.{Reset};
 
 use super::Processor;
@@ -16,7 +16,7 @@ impl Processor {
         if self.locked {
             return Err(Refusal::KeyOut);
         }
-        self.settle();
+        self.write_back();
         card.cancel();
         self.pc = 0;
         self.fault = None;

@@ -20,7 +20,7 @@ impl Processor {
         if !self.at_rest() {
             return Err(Refusal::NoBoundary);
         }
-        self.settle();
+        self.write_back();
         self.locked = true;
         Ok(Key {
             axis: u32::from(self.axis),

@@ -10,3 +10,24 @@ returns-in-registers c = search (rules, text_from_reads)
 
 pub returns-in-instruction : goal.returns-in-instruction
 returns-in-instruction c = search (rules, text_from_reads)
+
+pub returns-in-layer : goal.returns-in-layer
+returns-in-layer c = search (rules, text_from_reads)
+
+pub returns-in-power : goal.returns-in-power
+returns-in-power c = search (rules, text_from_reads)
+
+pub returns-in-place : goal.returns-in-place
+returns-in-place c = search (rules, text_from_reads)
+
+pub returns-in-clock : goal.returns-in-clock
+returns-in-clock c = search (rules, text_from_reads)
+
+pub returns-in-reset : goal.returns-in-reset
+returns-in-reset c = search (rules, text_from_reads)
+
+pub returns-in-flags : goal.returns-in-flags
+returns-in-flags c = search (rules, text_from_reads)
+
+pub returns-in-fault : goal.returns-in-fault
+returns-in-fault c = search (rules, text_from_reads)
