@@ -2,7 +2,6 @@
 use super::common::{View, count};
 use card::{Card, Cause, Origin, WordCard};
 use clocked::{Answer, Processor};
-use isa::Flags;
 use layer::{Kind, Layer};
 use machine::{Axis, Fault, Outcome, Stage};
 use refusal::Refusal;

@@ -3,14 +3,14 @@
 use Rattle.std.specs.Prelude.{◌≡◌, ℕ, false, Some, None, Ok, Err, Option, Result}
 use Rattle.refusal.specs.declared.Refusal.{Refusal}
 use Rattle.clocked.specs.declared.processor.Processor.{Processor}
-use Rattle.clocked.specs.Changes.{settled, locking, setting}
+use Rattle.clocked.specs.Changes.{written_back, locking, setting}
 use Rattle.clocked.specs.Refusals.{draw_refusal}
 
 abbrev pub with_register : ℕ → ℕ → Processor → Processor
-with_register n w p = locking false (setting n w (settled p))
+with_register n w p = locking false (setting n w (written_back p))
 
 abbrev pub with_registers : ℕ × ℕ → ℕ × ℕ → Processor → Processor
-with_registers a b p = locking false (setting b.0 b.1 (setting a.0 a.1 (settled p)))
+with_registers a b p = locking false (setting b.0 b.1 (setting a.0 a.1 (written_back p)))
 
 abbrev pub ServicedUnless : Option Refusal → Processor → Processor → Result (Unit {0}) Refusal → Processor → Type 0
 ServicedUnless (Some e) p s r q = (r ≡ Err e) × (q ≡ p)
