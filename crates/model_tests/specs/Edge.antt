@@ -3,7 +3,6 @@
 use Rattle.std.specs.Prelude.{ℕ, ◌+◌, ◌-◌, ◌^◌, ◌≤◌, min, cond, ◌&&◌, List, Option, nat_le, nat_lt, slice_index}
 use Rattle.std.proofs.Common.{arith}
 use Rattle.card.specs.declared.cell.Cell.TheVariants.{Fixed, Open}
-use Rattle.card.specs.declared.cell.Origin.{Origin}
 use Rattle.card.specs.declared.transfer.Transfer.{Transfer}
 use Rattle.card.specs.Ends.{Map}
 use Rattle.card.specs.Meaning.{Meaning}
