@@ -11,7 +11,7 @@ use std::test::Fail;
 
 const OK: Answer = Ok(Said::Nothing);
 
-// At a boundary with a result pending for r2: the draw stores it, so that it does not come over what is set.
+// At a boundary with a result pending for r2: the draw stores it, so it does not overwrite what is set.
 static AT_A_BOUNDARY: [(Call, Answer); 18] = [
     (Call::Clocks(5), OK),
     (Call::Register(2), Ok(Said::Word(9))),
