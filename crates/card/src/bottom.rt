@@ -1,7 +1,7 @@
 // Cards over lent words, whose transfers never wait. What the words are lent for makes the difference: words lent for writing
 // are open cells, words lent for reading are fixed ones.
 // Beside the interface's own clause, each call says what the memory is then: so the lent words hold what was stored in them.
-ghost use Rattle.std.specs.Prelude.{◌≡◌, ◌≤◌, ℕ, None};
+ghost use Rattle.std.specs.Prelude.{◌≡◌, ℕ, None};
 ghost use Rattle.std.proofs.Common.{zero-le};
 ghost use Rattle.card.specs.Ends.{Map};
 ghost use Rattle.card.specs.Meaning.{Placed, Begun, Answered, idle};

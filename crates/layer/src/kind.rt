@@ -1,7 +1,6 @@
 // The three kinds of layer, and what each makes of an address, of a cell and of a patience.
 ghost use Rattle.std.specs.Prelude.{◌≡◌};
 ghost use Rattle.layer.specs.Kinds.{address_under, guards, added};
-ghost use Rattle.layer.specs.Shown.{shown};
 
 #[derive(Clone, Copy, Debug)]
 pub enum Kind {

@@ -1,6 +1,6 @@
 // A layer over any card. It keeps its transfer itself: begin asks the card below how long it would wait, and the end of the
 // transfer looks and places below. So the card below has no transfer between calls, and needs no invariant to say so.
-ghost use Rattle.std.specs.Prelude.{◌≡◌, ◌≤◌, None};
+ghost use Rattle.std.specs.Prelude.{◌≡◌, None};
 ghost use Rattle.layer.specs.Kinds.{within};
 ghost use Rattle.card.specs.Meaning.{Begun, idle};
 ghost use Rattle.layer.specs.Waits.{ChosenAs, ChosenFrom, Kept};

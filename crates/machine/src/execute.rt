@@ -2,9 +2,8 @@
 // Its parts answer a fault as an error, and only the call as a whole records it: so up to there a fault has changed nothing.
 // They are methods of the machine over a card, a form and an instruction; a struct of these would lend the machine once more.
 ghost use Rattle.std.specs.Prelude.{◌≡◌};
-ghost use Rattle.card.specs.Ends.{End, end_of};
+ghost use Rattle.card.specs.Ends.{End};
 ghost use Rattle.card.specs.declared.transfer.Direction.TheVariants.{Read};
-ghost use Rattle.isa.specs.Opcodes.{class_of};
 ghost use Rattle.isa.specs.declared.opcodes.Class.TheVariants.{Load, Store};
 ghost use Rattle.isa.specs.Branch.{taken_by};
 ghost use Rattle.machine.specs.declared.fault.Stage.TheVariants.{Displacement};

@@ -2,7 +2,7 @@
 // zero. Its transfers wait by their address, up to three times. It can stand for a card under layers of its own, whose transfers all
 // wait so many times more and whose origins have so many layers above them. Its begin, poll and cancel are nearly a layer's. What
 // these share stands in `after_wait` and `finish`; one type for both, over cells and waits, would be longer than the few lines.
-ghost use Rattle.std.specs.Prelude.{◌≡◌, ◌≤◌, min};
+ghost use Rattle.std.specs.Prelude.{◌≡◌, min};
 ghost use Rattle.model_tests.specs.Edge.{edge_meaning, patient};
 
 use card::{Card, Cell, Cells, End, Origin, Request, Transfer, finish};
