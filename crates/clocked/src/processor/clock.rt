@@ -41,8 +41,8 @@ impl Processor {
         Ok(Tick { state, answer })
     }
 
-    // Matches the control state and what the card answers where it is polled. Apart from the refusals above, since a goal that has
-    // both takes the search for proofs to its limits. By reference, since a copy of the whole state costs a third of a clock's time.
+    // Matches the control state and what the card answers where it is polled. Apart from the refusals above, since a goal that
+    // has both takes the search for proofs to its limits. By reference, since otherwise each clock copies the whole state.
     fn advance<C: Card>(&mut self, card: &mut C) -> Result<Answer, Refusal>
         ensures { Advanced self.old (C.Cells.meaning card.old)
             result self.new (C.Cells.meaning card.new) }
