@@ -1,5 +1,5 @@
 // The two bottom cards at their ends, and calls out of order.
-use super::common::fault;
+use super::common::{fault, shows};
 use card::{BootCard, Card, Cause, Cell, Cells, Direction, End, Origin, Request, WordCard};
 use refusal::Refusal;
 use std::process::Abort;
@@ -21,20 +21,35 @@ fn access<C: Card>(card: &mut C, direction: Direction, address: u32) -> Result<E
     }
 }
 
+// Transfers, each with its end.
+fn accesses<C: Card>(
+    rt: &impl Abort,
+    card: &mut C,
+    rows: &[(Direction, u32, End)],
+) -> Result<(), Fail> {
+    for (direction, address, end) in rows {
+        assert_eq!(rt; access(card, *direction, *address)?, *end);
+    }
+    Ok(())
+}
+
 #[test]
 fn word_card_at_its_ends(rt: HostRuntime) -> Result<(), Fail> {
     let mut words = [5, 6, 7];
     let mut card = WordCard::new(&mut words);
-    assert_eq!(rt; card.look(0), Cell::Open(5));
-    assert_eq!(rt; card.look(2), Cell::Open(7));
-    assert_eq!(rt; card.look(3), Cell::Absent(here(3)));
-    assert_eq!(rt; card.look(0xffff_ffff), Cell::Absent(here(0xffff_ffff)));
-    assert_eq!(rt; access(&mut card, Direction::Write(9), 2)?, Ok(9));
-    assert_eq!(rt; access(&mut card, Direction::Read, 2)?, Ok(9));
-    assert_eq!(rt;
-        access(&mut card, Direction::Write(9), 3)?,
-        fault(Cause::Absent, 3, 0)
-    );
+    let cells = [
+        (0, Cell::Open(5)),
+        (2, Cell::Open(7)),
+        (3, Cell::Absent(here(3))),
+        (0xffff_ffff, Cell::Absent(here(0xffff_ffff))),
+    ];
+    shows(&rt, &card, &cells);
+    let rows = [
+        (Direction::Write(9), 2, Ok(9)),
+        (Direction::Read, 2, Ok(9)),
+        (Direction::Write(9), 3, fault(Cause::Absent, 3, 0)),
+    ];
+    accesses(&rt, &mut card, &rows)?;
     card.place(0, 4)?;
     assert_eq!(rt; card.place(3, 4), Err(Refusal::NotOpen));
     assert_eq!(rt; card.patience(), 0);
@@ -46,11 +61,17 @@ fn word_card_at_its_ends(rt: HostRuntime) -> Result<(), Fail> {
 fn largest_cards(rt: HostRuntime) -> Result<(), Fail> {
     let mut words = vec![in rt.alloc(); 1u32; 65_537]?;
     let card = BootCard::new(words.as_slice());
-    assert_eq!(rt; card.look(65_535), Cell::Fixed(1, here(65_535)));
-    assert_eq!(rt; card.look(65_536), Cell::Absent(here(65_536)));
+    let cells = [
+        (65_535, Cell::Fixed(1, here(65_535))),
+        (65_536, Cell::Absent(here(65_536))),
+    ];
+    shows(&rt, &card, &cells);
     let mut card = WordCard::new(words.as_mut_slice());
-    assert_eq!(rt; card.look(65_535), Cell::Open(1));
-    assert_eq!(rt; card.look(65_536), Cell::Absent(here(65_536)));
+    let cells = [
+        (65_535, Cell::Open(1)),
+        (65_536, Cell::Absent(here(65_536))),
+    ];
+    shows(&rt, &card, &cells);
     card.place(65_535, 2)?;
     assert_eq!(rt; card.place(65_536, 2), Err(Refusal::NotOpen));
     Ok(())
@@ -59,15 +80,12 @@ fn largest_cards(rt: HostRuntime) -> Result<(), Fail> {
 #[test]
 fn boot_card_is_fixed(rt: HostRuntime) -> Result<(), Fail> {
     let mut card = BootCard::new(&[5, 6]);
-    assert_eq!(rt; access(&mut card, Direction::Read, 1)?, Ok(6));
-    assert_eq!(rt;
-        access(&mut card, Direction::Read, 2)?,
-        fault(Cause::Absent, 2, 0)
-    );
-    assert_eq!(rt;
-        access(&mut card, Direction::Write(7), 1)?,
-        fault(Cause::Fixed, 1, 0)
-    );
+    let rows = [
+        (Direction::Read, 1, Ok(6)),
+        (Direction::Read, 2, fault(Cause::Absent, 2, 0)),
+        (Direction::Write(7), 1, fault(Cause::Fixed, 1, 0)),
+    ];
+    accesses(&rt, &mut card, &rows)?;
     assert_eq!(rt; card.place(1, 7), Err(Refusal::NotOpen));
     assert_eq!(rt; card.look(1), Cell::Fixed(6, here(1)));
     assert_eq!(rt; card.patience(), 0);

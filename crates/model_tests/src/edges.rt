@@ -3,7 +3,21 @@ use super::edge_card::EdgeCard;
 use card::{Card, Cause, Cell, Cells, Direction, Origin, Request};
 use machine::{Axis, Fault, Machine, Outcome, Stage};
 use refusal::Refusal;
+use std::process::Abort;
 use std::test::Fail;
+
+// Instructions, each with its answer and PC afterwards.
+fn steps(
+    rt: &impl Abort,
+    axis: &mut Machine,
+    card: &mut EdgeCard,
+    rows: &[(Result<Outcome, Refusal>, u32)],
+) {
+    for (answer, pc) in rows {
+        assert_eq!(rt; axis.instruction(card), *answer);
+        assert_eq!(rt; axis.pc(), *pc);
+    }
+}
 
 // biq r1 + i8 at 0 goes to 0xffffffff; there a long branch has its displacement at 0, and its base is 1.
 #[test]
@@ -13,10 +27,11 @@ fn branch_at_the_last_address(rt: HostRuntime) -> Result<(), Fail> {
         [0, 0, 0, 0, 0, 0, 0, 0x4000_0000],
     );
     let mut axis = Machine::power_up(1, &mut card)?;
-    assert_eq!(rt; axis.instruction(&mut card), Ok(Outcome::Done));
-    assert_eq!(rt; axis.pc(), 0xffff_ffff);
-    assert_eq!(rt; axis.instruction(&mut card), Ok(Outcome::Done));
-    assert_eq!(rt; axis.pc(), 0x5100_0100);
+    let rows = [
+        (Ok(Outcome::Done), 0xffff_ffff),
+        (Ok(Outcome::Done), 0x5100_0100),
+    ];
+    steps(&rt, &mut axis, &mut card, &rows);
     Ok(())
 }
 
@@ -28,9 +43,11 @@ fn load_and_store_at_the_last_addresses(rt: HostRuntime) -> Result<(), Fail> {
     let mut card = EdgeCard::new(first, last);
     let mut axis = Machine::power_up(2, &mut card)?;
     // at 0xfffffffe the store's displacement is the word at 0xffffffff, a fixed cell's address
-    assert_eq!(rt; axis.instruction(&mut card), Ok(Outcome::Done));
-    assert_eq!(rt; axis.instruction(&mut card), Ok(Outcome::Halted));
-    assert_eq!(rt; axis.pc(), 0xffff_fffe);
+    let rows = [
+        (Ok(Outcome::Done), 0xffff_fffe),
+        (Ok(Outcome::Halted), 0xffff_fffe),
+    ];
+    steps(&rt, &mut axis, &mut card, &rows);
     let fault = Fault {
         axis: Axis::Two,
         stage: Stage::Store,
@@ -46,11 +63,14 @@ fn load_and_store_at_the_last_addresses(rt: HostRuntime) -> Result<(), Fail> {
     // the load at 0xffffffff has its displacement at 0
     axis.reset();
     card.place(0, 0x5100_00ff)?;
-    assert_eq!(rt; axis.instruction(&mut card), Ok(Outcome::Done));
-    assert_eq!(rt; axis.pc(), 0xffff_ffff);
+    steps(
+        &rt,
+        &mut axis,
+        &mut card,
+        &[(Ok(Outcome::Done), 0xffff_ffff)],
+    );
     card.place(0, 1)?;
-    assert_eq!(rt; axis.instruction(&mut card), Ok(Outcome::Done));
-    assert_eq!(rt; axis.pc(), 1);
+    steps(&rt, &mut axis, &mut card, &[(Ok(Outcome::Done), 1)]);
     assert_eq!(rt; axis.register(2), 0x5100_00ff);
     Ok(())
 }
@@ -65,14 +85,12 @@ fn foreign_transfer(rt: HostRuntime) -> Result<(), Fail> {
         address: 5,
     };
     assert_eq!(rt; card.begin(request), Ok(1));
-    assert_eq!(rt; axis.instruction(&mut card), Err(Refusal::Transfer));
-    assert_eq!(rt; axis.pc(), 0);
+    steps(&rt, &mut axis, &mut card, &[(Err(Refusal::Transfer), 0)]);
     assert_eq!(rt; card.begin(request), Err(Refusal::Transfer));
     assert!(rt; matches!(Machine::power_up(4, &mut card), Err(Refusal::Axis)));
     assert_eq!(rt; card.begin(request), Err(Refusal::Transfer));
     assert!(rt; Machine::power_up(1, &mut card).is_ok());
-    assert_eq!(rt; axis.instruction(&mut card), Ok(Outcome::Ignored));
-    assert_eq!(rt; axis.pc(), 1);
+    steps(&rt, &mut axis, &mut card, &[(Ok(Outcome::Ignored), 1)]);
     Ok(())
 }
 
@@ -82,16 +100,20 @@ fn past_the_last_address(rt: HostRuntime) -> Result<(), Fail> {
     let first = [0x5100_00fe, 0, 0, 0, 0, 0, 0, 0];
     let mut card = EdgeCard::new(first, [0, 0, 0, 0, 0, 0, 0x2103_0000, 0x0000_0005]);
     let mut axis = Machine::power_up(1, &mut card)?;
-    assert_eq!(rt; axis.instruction(&mut card), Ok(Outcome::Done));
-    assert_eq!(rt; axis.pc(), 0xffff_fffe);
+    steps(
+        &rt,
+        &mut axis,
+        &mut card,
+        &[(Ok(Outcome::Done), 0xffff_fffe)],
+    );
     card.place(5, 9)?;
-    assert_eq!(rt; axis.instruction(&mut card), Ok(Outcome::Done));
-    assert!(rt; axis.pc() == 0 && matches!(card.look(5), Cell::Open(0)));
+    steps(&rt, &mut axis, &mut card, &[(Ok(Outcome::Done), 0)]);
+    assert_eq!(rt; card.look(5), Cell::Open(0));
     let mut card = EdgeCard::new([0x5100_00ff, 0, 0, 0, 0, 0, 0, 0], [0x1004_0006; 8]);
     let mut axis = Machine::power_up(1, &mut card)?;
-    assert_eq!(rt; axis.instruction(&mut card), Ok(Outcome::Done));
-    assert_eq!(rt; axis.instruction(&mut card), Ok(Outcome::Done));
-    assert!(rt; axis.pc() == 0 && axis.register(4) == 6);
+    let rows = [(Ok(Outcome::Done), 0xffff_ffff), (Ok(Outcome::Done), 0)];
+    steps(&rt, &mut axis, &mut card, &rows);
+    assert_eq!(rt; axis.register(4), 6);
     Ok(())
 }
 
@@ -108,8 +130,8 @@ fn halted_before_busy(rt: HostRuntime) -> Result<(), Fail> {
         })
         .is_ok()
     );
-    assert_eq!(rt; axis.instruction(&mut card), Err(Refusal::Halted));
+    steps(&rt, &mut axis, &mut card, &[(Err(Refusal::Halted), 0)]);
     axis.reset();
-    assert_eq!(rt; axis.instruction(&mut card), Err(Refusal::Transfer));
+    steps(&rt, &mut axis, &mut card, &[(Err(Refusal::Transfer), 0)]);
     Ok(())
 }

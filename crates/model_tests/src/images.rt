@@ -20,67 +20,57 @@ fn pairs(first: [u32; 2], second: [u32; 2]) -> Option<Refusal> {
 
 #[test]
 fn refusals(rt: HostRuntime) {
-    assert_eq!(rt; verdict(&[]), Some(Refusal::Length));
-    assert_eq!(rt; verdict(&[0, 0, 0]), Some(Refusal::Length));
-    assert_eq!(rt; verdict(&[0, 0, 0, 0]), None);
-    assert_eq!(rt;
-        verdict(&[0, 0, 0, 0, 0]),
-        Some(Refusal::Length),
-        "bytes after no segment"
-    );
-    assert_eq!(rt;
-        verdict(&[0, 0, 0, 65]),
-        Some(Refusal::Count),
-        "before the directory's length"
-    );
-    assert_eq!(rt; verdict(&[0, 0, 0, 64]), Some(Refusal::Length));
-    assert_eq!(rt;
-        verdict(&[0, 0, 0, 1, 0, 0, 0, 0, 0, 0, 0]),
-        Some(Refusal::Length)
-    );
-    assert_eq!(rt;
-        verdict(&[0, 0, 0, 1, 0, 0, 0, 0, 0, 0, 0, 0]),
-        Some(Refusal::Pair)
-    );
-    assert_eq!(rt;
-        verdict(&[0, 0, 0, 1, 0, 0, 0, 0, 0, 0, 0, 1]),
-        Some(Refusal::Length)
-    );
+    let rows: [(&[u8], Option<Refusal>); 9] = [
+        (&[], Some(Refusal::Length)),
+        (&[0, 0, 0], Some(Refusal::Length)),
+        (&[0, 0, 0, 0], None),
+        // bytes after no segment
+        (&[0, 0, 0, 0, 0], Some(Refusal::Length)),
+        // before the directory's length
+        (&[0, 0, 0, 65], Some(Refusal::Count)),
+        (&[0, 0, 0, 64], Some(Refusal::Length)),
+        (&[0, 0, 0, 1, 0, 0, 0, 0, 0, 0, 0], Some(Refusal::Length)),
+        (&[0, 0, 0, 1, 0, 0, 0, 0, 0, 0, 0, 0], Some(Refusal::Pair)),
+        (&[0, 0, 0, 1, 0, 0, 0, 0, 0, 0, 0, 1], Some(Refusal::Length)),
+    ];
+    for (bytes, expected) in rows {
+        assert_eq!(rt; verdict(bytes), expected);
+    }
 }
 
 #[test]
 fn two_pairs(rt: HostRuntime) {
-    assert_eq!(rt; pairs([2, 2], [4, 1]), None, "touching");
-    assert_eq!(rt;
-        pairs([2, 2], [0xffff_ffff, 1]),
-        None,
-        "up to the last address"
-    );
-    assert_eq!(rt;
-        pairs([2, 1], [0xffff_ffff, 2]),
-        Some(Refusal::Pair),
-        "past the last address"
-    );
-    assert_eq!(rt; pairs([2, 2], [3, 1]), Some(Refusal::Pair), "overlapping");
-    assert_eq!(rt; pairs([2, 2], [2, 1]), Some(Refusal::Pair), "equal offsets");
-    assert_eq!(rt; pairs([4, 2], [2, 1]), Some(Refusal::Pair), "not sorted");
-    assert_eq!(rt; pairs([2, 3], [5, 0]), Some(Refusal::Pair), "no word");
-    assert_eq!(rt;
-        pairs([2, 2], [4, 0xffff_ffff]),
-        Some(Refusal::Pair),
-        "far past the last address"
-    );
-    assert_eq!(rt;
-        pairs([0, 0xffff_ffff], [0xffff_ffff, 1]),
-        Some(Refusal::Length),
-        "every address"
-    );
-    assert_eq!(rt;
-        pairs([2, 2], [3, 2]),
-        Some(Refusal::Pair),
-        "a wrong total besides"
-    );
-    assert_eq!(rt; pairs([2, 2], [4, 2]), Some(Refusal::Length));
+    let rows = [
+        ("touching", [2, 2], [4, 1], None),
+        ("up to the last address", [2, 2], [0xffff_ffff, 1], None),
+        (
+            "past the last address",
+            [2, 1],
+            [0xffff_ffff, 2],
+            Some(Refusal::Pair),
+        ),
+        ("overlapping", [2, 2], [3, 1], Some(Refusal::Pair)),
+        ("equal offsets", [2, 2], [2, 1], Some(Refusal::Pair)),
+        ("not sorted", [4, 2], [2, 1], Some(Refusal::Pair)),
+        ("no word", [2, 3], [5, 0], Some(Refusal::Pair)),
+        (
+            "far past the last address",
+            [2, 2],
+            [4, 0xffff_ffff],
+            Some(Refusal::Pair),
+        ),
+        (
+            "every address",
+            [0, 0xffff_ffff],
+            [0xffff_ffff, 1],
+            Some(Refusal::Length),
+        ),
+        ("a wrong total besides", [2, 2], [3, 2], Some(Refusal::Pair)),
+        ("a wrong total", [2, 2], [4, 2], Some(Refusal::Length)),
+    ];
+    for (what, first, second, expected) in rows {
+        assert_eq!(rt; pairs(first, second), expected, "{what}");
+    }
 }
 
 // As many segments of one word, with room for 65 pairs; by the position of each byte, as the format counts them.

@@ -1,5 +1,5 @@
 // Layers: origins through a stack, waits, and what a layer leaves of the card below.
-use super::common::{fault, run};
+use super::common::{fault, run, shows};
 use super::edge_card::EdgeCard;
 use card::{BootCard, Card, Cause, Cell, Cells, Direction, End, Origin, Request, WordCard};
 use layer::{Kind, Layer};
@@ -19,17 +19,21 @@ fn fixed(word: u32, address: u32, layer: u8) -> Cell {
 fn offsets_at_their_ends(rt: HostRuntime) -> Result<(), Fail> {
     let mut words = [5];
     let card = Layer::new(Kind::Offset(0), WordCard::new(&mut words));
-    assert_eq!(rt; card.look(0), Cell::Open(5));
-    assert_eq!(rt; card.look(1), absent(1, 1));
+    shows(&rt, &card, &[(0, Cell::Open(5)), (1, absent(1, 1))]);
     let mut words = [5];
     let card = Layer::new(Kind::Offset(0xffff_ffff), WordCard::new(&mut words));
-    assert_eq!(rt; card.look(0xffff_ffff), Cell::Open(5));
-    assert_eq!(rt; card.look(0xffff_fffe), absent(0xffff_fffe, 0));
+    shows(
+        &rt,
+        &card,
+        &[
+            (0xffff_ffff, Cell::Open(5)),
+            (0xffff_fffe, absent(0xffff_fffe, 0)),
+        ],
+    );
     let mut words = [5];
     let mut card = Layer::new(Kind::Offset(4), WordCard::new(&mut words));
-    assert_eq!(rt; card.look(3), absent(3, 0));
-    assert_eq!(rt; card.look(4), Cell::Open(5));
-    assert_eq!(rt; card.look(5), absent(1, 1));
+    let cells = [(3, absent(3, 0)), (4, Cell::Open(5)), (5, absent(1, 1))];
+    shows(&rt, &card, &cells);
     card.place(4, 6)?;
     assert_eq!(rt; card.place(3, 6), Err(Refusal::NotOpen));
     assert_eq!(rt; card.look(4), Cell::Open(6));
@@ -40,27 +44,27 @@ fn offsets_at_their_ends(rt: HostRuntime) -> Result<(), Fail> {
 fn guards_at_their_ends(rt: HostRuntime) -> Result<(), Fail> {
     let mut words = [5, 6, 7, 8];
     let mut card = Layer::new(Kind::Guard(1, 2), WordCard::new(&mut words));
-    assert_eq!(rt; card.look(0), Cell::Open(5));
-    assert_eq!(rt; card.look(1), fixed(6, 1, 0));
-    assert_eq!(rt; card.look(2), fixed(7, 2, 0));
-    assert_eq!(rt; card.look(3), Cell::Open(8));
-    assert_eq!(rt; card.look(4), absent(4, 1));
+    let cells = [
+        (0, Cell::Open(5)),
+        (1, fixed(6, 1, 0)),
+        (2, fixed(7, 2, 0)),
+        (3, Cell::Open(8)),
+        (4, absent(4, 1)),
+    ];
+    shows(&rt, &card, &cells);
     assert_eq!(rt; card.place(2, 9), Err(Refusal::NotOpen));
     card.place(3, 9)?;
     // first above last guards nothing
     let mut words = [5, 6, 7];
     let card = Layer::new(Kind::Guard(2, 1), WordCard::new(&mut words));
-    assert_eq!(rt; card.look(1), Cell::Open(6));
-    assert_eq!(rt; card.look(2), Cell::Open(7));
+    shows(&rt, &card, &[(1, Cell::Open(6)), (2, Cell::Open(7))]);
     // what is fixed or absent below stays as it is there; of two guards the lower is the origin
     let card = Layer::new(Kind::Guard(0, 9), BootCard::new(&[5]));
-    assert_eq!(rt; card.look(0), fixed(5, 0, 1));
-    assert_eq!(rt; card.look(1), absent(1, 1));
+    shows(&rt, &card, &[(0, fixed(5, 0, 1)), (1, absent(1, 1))]);
     let mut words = [5, 6];
     let lower = Layer::new(Kind::Guard(0, 0), WordCard::new(&mut words));
     let card = Layer::new(Kind::Guard(0, 9), lower);
-    assert_eq!(rt; card.look(0), fixed(5, 0, 1));
-    assert_eq!(rt; card.look(1), fixed(6, 1, 0));
+    shows(&rt, &card, &[(0, fixed(5, 0, 1)), (1, fixed(6, 1, 0))]);
     Ok(())
 }
 
@@ -81,50 +85,53 @@ fn waited<C: Card>(
     Ok((waits, end))
 }
 
+// Transfers, each with its waits and its end.
+fn transfers<C: Card>(
+    rt: &impl Abort,
+    card: &mut C,
+    rows: &[(Direction, u32, u16, End)],
+) -> Result<(), Fail> {
+    for (direction, address, waits, end) in rows {
+        assert_eq!(rt; waited(rt, card, *direction, *address)?, (*waits, *end));
+    }
+    Ok(())
+}
+
 #[test]
 fn waits_through_a_stack(rt: HostRuntime) -> Result<(), Fail> {
     let below = EdgeCard::new([0; 8], [0; 8]);
     let mut slow = Layer::new(Kind::Slow(200), below);
     assert_eq!(rt; slow.patience(), 203);
-    assert_eq!(rt; waited(&rt, &mut slow, Direction::Read, 3)?, (203, Ok(0)));
+    transfers(&rt, &mut slow, &[(Direction::Read, 3, 203, Ok(0))])?;
     let mut offset = Layer::new(Kind::Offset(2), slow);
-    assert_eq!(rt; waited(&rt, &mut offset, Direction::Read, 4)?, (202, Ok(0)));
+    transfers(&rt, &mut offset, &[(Direction::Read, 4, 202, Ok(0))])?;
     let mut card = Layer::new(Kind::Guard(1, 1), offset);
     assert_eq!(rt; card.patience(), 203);
-    // the card below waits by its address, and the slow layer adds to that
-    assert_eq!(rt; waited(&rt, &mut card, Direction::Read, 5)?, (203, Ok(0)));
-    assert_eq!(rt;
-        waited(&rt, &mut card, Direction::Write(7), 6)?,
-        (200, Ok(7))
-    );
+    // the card below waits by its address, and the slow layer adds to that; what a layer refuses itself has no waits
+    let rows = [
+        (Direction::Read, 5, 203, Ok(0)),
+        (Direction::Write(7), 6, 200, Ok(7)),
+        (Direction::Read, 1, 0, fault(Cause::Absent, 1, 1)),
+    ];
+    transfers(&rt, &mut card, &rows)?;
     assert_eq!(rt; card.look(6), Cell::Open(7));
-    // what a layer refuses itself has no waits
-    assert_eq!(rt;
-        waited(&rt, &mut card, Direction::Read, 1)?,
-        (0, fault(Cause::Absent, 1, 1))
-    );
     let mut card = Layer::new(Kind::Guard(4, 5), card);
-    assert_eq!(rt;
-        waited(&rt, &mut card, Direction::Write(9), 5)?,
-        (0, fault(Cause::Fixed, 5, 0))
-    );
-    assert_eq!(rt; waited(&rt, &mut card, Direction::Read, 5)?, (203, Ok(0)));
-    assert_eq!(rt;
-        waited(&rt, &mut card, Direction::Write(9), 20)?,
-        (202, fault(Cause::Fixed, 18, 4))
-    );
-    Ok(())
+    let rows = [
+        (Direction::Write(9), 5, 0, fault(Cause::Fixed, 5, 0)),
+        (Direction::Read, 5, 203, Ok(0)),
+        (Direction::Write(9), 20, 202, fault(Cause::Fixed, 18, 4)),
+    ];
+    transfers(&rt, &mut card, &rows)
 }
 
 // The longest transfer takes as long as the patience, and the one at address 0 three waits less.
 fn waits_up_to<C: Card>(rt: &impl Abort, card: &mut C, patience: u16) -> Result<(), Fail> {
     assert_eq!(rt; card.patience(), patience);
-    assert_eq!(rt; waited(rt, card, Direction::Read, 3)?, (patience, Ok(0)));
-    assert_eq!(rt;
-        waited(rt, card, Direction::Read, 0)?,
-        (patience.saturating_sub(3), Ok(0))
-    );
-    Ok(())
+    let rows = [
+        (Direction::Read, 3, patience, Ok(0)),
+        (Direction::Read, 0, patience.saturating_sub(3), Ok(0)),
+    ];
+    transfers(rt, card, &rows)
 }
 
 // The waits of slow layers stop at 4,096: three of 255 on a card that waits as under fourteen of them, and a further one.
