@@ -13,10 +13,10 @@ test: panel-test lines-test images-test key-test
 panel-test: target/staticlib/libfault_line.a
 	panel/test.sh
 
-lines-test: target/bin/bench
+lines-test:
 	tests/lines.sh
 
-images-test: target/bin/bench
+images-test:
 	tests/images.sh
 
 key-test:

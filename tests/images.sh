@@ -1,9 +1,10 @@
 #!/usr/bin/env bash
 # Large images through the bench itself: what it says of each, and every cell of the largest card afterwards.
+# It is run by rt try, which builds it in seconds and stops at any error of the run; rt ci proves the same files.
 set -euo pipefail
 cd "$(dirname "$0")/.."
-bench=target/bin/bench
-out=target/images
+out=$PWD/target/images
+rm -rf "$out"
 mkdir -p "$out"
 
 # so many bytes of 1
@@ -18,34 +19,45 @@ ones() { head -c "$1" /dev/zero | tr '\0' '\1'; }
 # one segment of 65,536 words (0x00010000) at 0, the first and the last of which differ from the others
 { printf '\0\0\0\1\0\0\0\0\0\1\0\0\22\64\126\170' && ones $((4 * 65534)) && printf '\0\0\0\52'; } >"$out/whole.image"
 
-# all refused before the first dump, so the card is as it was; the last one is placed whole before the second
-cat >"$out/scenario" <<END
+# The half of the cells from FROM on, after the loads that are refused, and after the one that is placed whole: a run may print
+# less than a dump of all cells.
+mkdir -p "$out/cases"
+for from in 0 32768; do
+    cat >"$out/cases/refused.$from" <<END
 card word 65536
 words 0 5
 words 65535 6
-load $out/million.image
-load $out/short.image
-load $out/long.image
-load $out/count.image
-memory 0 65536
-load $out/whole.image
-memory 0 65536
+load million.image
+load short.image
+load long.image
+load count.image
+memory $from 32768
 END
+    cat >"$out/cases/whole.$from" <<END
+card word 65536
+load whole.image
+memory $from 32768
+END
+done
 
-# cells FIRST OTHER LAST: the dump of a card with these words at 0, between and at 65535
+# cells FROM FIRST OTHER LAST: the dump of a half on a card with these words at 0, between and at 65535
 cells() {
-    seq 0 65535 | awk -v first="$1" -v other="$2" -v last="$3" \
+    seq "$1" $(($1 + 32767)) | awk -v first="$2" -v other="$3" -v last="$4" \
         '{ printf "%08x open %s\n", $1, $1 == 0 ? first : $1 == 65535 ? last : other }'
 }
 
-{
-    printf 'card ok\nwords ok\nwords ok\n'
+for from in 0 32768; do
+    printf '== refused.%s\ncard ok\nwords ok\nwords ok\n' "$from"
     printf 'load refused %s\n' '44 at 00010000' 41 41 42
-    cells 00000005 00000000 00000006
-    echo 'load ok'
-    cells 12345678 01010101 0000002a
-} >"$out/expected"
+    cells "$from" 00000005 00000000 00000006
+done >"$out/expected"
+for from in 0 32768; do
+    printf '== whole.%s\ncard ok\nload ok\n' "$from"
+    cells "$from" 12345678 01010101 0000002a
+done >>"$out/expected"
 
-"$bench" "$out/scenario" >"$out/printed"
+data=()
+for name in million short long count whole; do data+=(--data "$name.image=$out/$name.image"); done
+(cd crates/bench && rt try "${data[@]}" --cases "$out/cases") >"$out/printed" 2>"$out/ends" || { cat "$out/ends" >&2; exit 1; }
 cmp "$out/printed" "$out/expected"
 echo "large images: ok"
