@@ -1,6 +1,6 @@
 // A scenario: a card, then an axis on it, until the next card.
 use super::axis::{Axis, PowerUp};
-use super::cells::{self, Dump, Load, Look, Place};
+use super::cells::OnCells;
 use super::input::Line;
 use super::memory::Memory;
 use super::mistake::{Mistake, Report};
@@ -76,27 +76,14 @@ fn set_up(
 
 // Carries out a line before power-up, or an accepted power-up.
 fn carry_out(rt: &HostRuntime, memory: &mut Memory, line: &Line) -> Result<Option<Axis>, Mistake> {
-    match line.command()? {
-        // the next scenario begins with it, so it does not come here
-        Command::Card(_, _) => {}
+    let command = line.command()?;
+    if let Some(task) = OnCells::of(rt, command)? {
+        memory.perform(rt, task)?;
+        return Ok(None);
+    }
+    match command {
         Command::Words(from, list) => store(rt, memory, *from, list)?,
         Command::Layer(kind) => add_layer(rt, memory, *kind)?,
-        Command::Load(name) => memory.perform(rt, Load(cells::read_file(rt, name)?))?,
-        Command::Look(address) => memory.perform(rt, Look(*address))?,
-        Command::Memory(from, count) => memory.perform(
-            rt,
-            Dump {
-                from: *from,
-                count: *count,
-            },
-        )?,
-        Command::Place(address, word) => memory.perform(
-            rt,
-            Place {
-                address: *address,
-                word: *word,
-            },
-        )?,
         Command::Power(kind, axis) => {
             return Ok(memory.perform(
                 rt,
@@ -116,6 +103,12 @@ fn carry_out(rt: &HostRuntime, memory: &mut Memory, line: &Line) -> Result<Optio
         | Command::Flags
         | Command::Pc
         | Command::Fault => return Err(Mistake::NoAxis),
+        // a card begins the next scenario, and what is done on cells is done above
+        Command::Card(_, _)
+        | Command::Look(_)
+        | Command::Memory(_, _)
+        | Command::Place(_, _)
+        | Command::Load(_) => {}
     }
     Ok(None)
 }

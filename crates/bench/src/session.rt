@@ -1,7 +1,7 @@
 // An axis on its card, from the first accepted power-up of a scenario to its end.
 use super::axis::{Axis, PowerUp};
 use super::axis_commands;
-use super::cells::{self, Dump, Load, Look, Place};
+use super::cells::OnCells;
 use super::input::Line;
 use super::mistake::{Mistake, Report};
 use super::stack::Task;
@@ -41,23 +41,13 @@ fn carry_out<C: Card>(
     axis: &mut Axis,
     line: &Line,
 ) -> Result<(), Mistake> {
-    match line.command()? {
-        // the next scenario begins with it, so it does not come here
-        Command::Card(_, _) => {}
+    let command = line.command()?;
+    if let Some(task) = OnCells::of(rt, command)? {
+        return Ok(task.perform(rt, card)?);
+    }
+    match command {
         Command::Words(_, _) => return Err(Mistake::WordsAfterPower),
         Command::Layer(_) => return Err(Mistake::LayerAfterPower),
-        Command::Load(name) => Load(cells::read_file(rt, name)?).perform(rt, card)?,
-        Command::Look(address) => Look(*address).perform(rt, card)?,
-        Command::Memory(from, count) => Dump {
-            from: *from,
-            count: *count,
-        }
-        .perform(rt, card)?,
-        Command::Place(address, word) => Place {
-            address: *address,
-            word: *word,
-        }
-        .perform(rt, card)?,
         Command::Power(kind, number) => {
             let power_up = PowerUp {
                 kind: *kind,
@@ -78,6 +68,12 @@ fn carry_out<C: Card>(
         Command::Flags => axis_commands::flags(rt, axis)?,
         Command::Pc => axis_commands::pc(rt, axis)?,
         Command::Fault => axis_commands::fault(rt, axis)?,
+        // a card begins the next scenario, and what is done on cells is done above
+        Command::Card(_, _)
+        | Command::Look(_)
+        | Command::Memory(_, _)
+        | Command::Place(_, _)
+        | Command::Load(_) => {}
     }
     Ok(())
 }
