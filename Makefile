@@ -7,7 +7,9 @@
 run: target/bin/bench
 	target/bin/bench examples/count.scenario examples/halt.scenario examples/clock.scenario
 
-test: panel-test lines-test images-test key-test
+# the tests before rt ci two at a time, what each prints kept together
+test:
+	$(MAKE) --no-print-directory --jobs=2 --output-sync=target panel-test lines-test images-test key-test
 	rt ci
 
 panel-test: target/staticlib/libfault_line.a

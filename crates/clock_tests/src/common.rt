@@ -4,10 +4,17 @@ use clocked::{Answer, ControlState, Key, NotTaken, Processor};
 use isa::Flags;
 use machine::{Fault, Outcome};
 use refusal::Refusal;
+use std::fmt::Debug;
 use std::process::Abort;
 
 // Loads r1 from address 4, with a displacement.
 pub const LOAD: [u32; 5] = [0x2001_0000, 4, 0, 0, 0x1234];
+
+// The comparison of every test. It stands in a function of its own, since a check takes a second for each place where the macro
+// stands, and next to nothing for a call of this.
+pub fn equal<T: PartialEq + Debug + Drop>(rt: &impl Abort, found: T, expected: T) {
+    assert_eq!(rt; found, expected);
+}
 
 // Everything that an axis can be asked for.
 #[derive(PartialEq, Debug, Drop)]
@@ -44,6 +51,11 @@ impl View {
             state: axis.state(),
         }
     }
+}
+
+// The axis shows what is expected.
+pub fn shows(rt: &impl Abort, axis: &Processor, expected: &View) {
+    equal(rt, &View::of(axis), expected);
 }
 
 // So many clocks, all of them accepted.
@@ -85,7 +97,7 @@ pub fn kept(rt: &impl Abort, axis: &mut Processor, key: Key) -> Key {
     match axis.give_back(key) {
         Ok(()) => panic!(rt; "the key is taken"),
         Err(NotTaken { key, refusal }) => {
-            assert_eq!(rt; refusal, Refusal::Misfit);
+            equal(rt, refusal, Refusal::Misfit);
             key
         }
     }

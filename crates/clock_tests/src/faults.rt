@@ -1,5 +1,5 @@
 // A fault in each state that polls, without waits and with them.
-use super::common::{View, count};
+use super::common::{View, count, equal, shows};
 use card::{Card, Cause, Origin, WordCard};
 use clocked::{Answer, Processor};
 use layer::{Kind, Layer};
@@ -40,16 +40,14 @@ fn stays_halted<C: Card>(
     card: &mut C,
     fault: Fault,
 ) -> Result<(), Refusal> {
-    let shown = View {
-        pc: fault.instruction,
-        fault: Some(fault),
-        ..View::new()
-    };
-    assert_eq!(rt; View::of(axis), shown);
-    assert_eq!(rt; axis.clock(card), Err(Refusal::Halted));
-    assert_eq!(rt; View::of(axis), shown);
+    let mut shown = View::new();
+    shown.pc = fault.instruction;
+    shown.fault = Some(fault);
+    shows(rt, axis, &shown);
+    equal(rt, axis.clock(card), Err(Refusal::Halted));
+    shows(rt, axis, &shown);
     axis.reset(card)?;
-    assert_eq!(rt; View::of(axis), View::new());
+    shows(rt, axis, &View::new());
     Ok(())
 }
 
@@ -65,7 +63,7 @@ fn each_stage(rt: HostRuntime) -> Result<(), Fail> {
             let mut card = Layer::new(Kind::Slow(waits), WordCard::new(words));
             let mut axis = Processor::power_up(3, &mut card)?;
             let all = count(*clocks, *transfers, waits);
-            assert_eq!(rt; halted(&mut axis, &mut card)?, Some(all));
+            equal(&rt, halted(&mut axis, &mut card)?, Some(all));
             let fault = Fault {
                 axis: Axis::Three,
                 stage: *stage,
@@ -90,7 +88,7 @@ fn a_fixed_cell(rt: HostRuntime) -> Result<(), Fail> {
     let slow = Layer::new(Kind::Slow(2), WordCard::new(&mut words));
     let mut card = Layer::new(Kind::Guard(0, 3), slow);
     let mut axis = Processor::power_up(2, &mut card)?;
-    assert_eq!(rt; halted(&mut axis, &mut card)?, Some(16));
+    equal(&rt, halted(&mut axis, &mut card)?, Some(16));
     let mut shown = View::new();
     shown.registers[1] = 0xffff_ffff;
     shown.flags.n = true;
@@ -106,6 +104,6 @@ fn a_fixed_cell(rt: HostRuntime) -> Result<(), Fail> {
             layer: 0,
         },
     });
-    assert_eq!(rt; View::of(&axis), shown);
+    shows(&rt, &axis, &shown);
     Ok(())
 }

@@ -1,5 +1,5 @@
 // The service key of an axis: where it can be drawn, what it locks out, and what it sets.
-use super::common::{LOAD, View, clocks, instruction, refused_draw};
+use super::common::{LOAD, View, clocks, equal, instruction, refused_draw, shows};
 use super::script::{Answer, Call, Said, follows};
 use card::WordCard;
 use clocked::Processor;
@@ -46,14 +46,14 @@ fn halted(rt: HostRuntime) -> Result<(), Fail> {
     let mut card = WordCard::new(&mut words);
     let mut axis = Processor::power_up(1, &mut card)?;
     let end = instruction(&mut axis, &mut card)?;
-    assert_eq!(rt; end, Some((10, Outcome::Halted)));
+    equal(&rt, end, Some((10, Outcome::Halted)));
     let mut shown = View::of(&axis);
     set_registers(&mut axis, (7, 5), (8, 6))?;
     set_registers(&mut axis, (8, 1), (8, 2))?;
     shown.registers[7] = 5;
     shown.registers[8] = 2;
-    assert_eq!(rt; View::of(&axis), shown);
-    assert_eq!(rt; axis.clock(&mut card), Err(Refusal::Halted));
+    shows(&rt, &axis, &shown);
+    equal(&rt, axis.clock(&mut card), Err(Refusal::Halted));
     Ok(())
 }
 
@@ -67,15 +67,15 @@ fn between_boundaries(rt: HostRuntime) -> Result<(), Fail> {
     for _ in 1..13 {
         clocks(&mut axis, &mut card, 1)?;
         let before = View::of(&axis);
-        assert_eq!(rt; refused_draw(&rt, &mut axis), Refusal::NoBoundary);
-        assert_eq!(rt; set_register(&mut axis, 2, 7), Err(Refusal::NoBoundary));
-        assert_eq!(rt; View::of(&axis), before);
+        equal(&rt, refused_draw(&rt, &mut axis), Refusal::NoBoundary);
+        equal(&rt, set_register(&mut axis, 2, 7), Err(Refusal::NoBoundary));
+        shows(&rt, &axis, &before);
     }
     clocks(&mut axis, &mut card, 1)?;
     set_registers(&mut axis, (3, 8), (4, 9))?;
     let mut shown = View::new();
     shown.registers[0..5].copy_from_slice(&[0, 0x1234, 6, 8, 9]);
     shown.pc = 2;
-    assert_eq!(rt; View::of(&axis), shown);
+    shows(&rt, &axis, &shown);
     Ok(())
 }

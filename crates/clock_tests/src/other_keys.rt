@@ -1,5 +1,5 @@
 // A key at a processor that it was not drawn from.
-use super::common::{View, clocks, hand_back, kept};
+use super::common::{View, clocks, equal, hand_back, kept, shows};
 use card::WordCard;
 use clocked::{Key, Processor};
 use refusal::Refusal;
@@ -9,9 +9,9 @@ use std::test::Fail;
 // The key neither sets nor is taken, and stays with the caller.
 fn does_not_fit(rt: &impl Abort, axis: &mut Processor, key: Key) -> Key {
     let before = View::of(axis);
-    assert_eq!(rt; axis.set(&key, 1, 1), Err(Refusal::Misfit));
+    equal(rt, axis.set(&key, 1, 1), Err(Refusal::Misfit));
     let key = kept(rt, axis, key);
-    assert_eq!(rt; View::of(axis), before);
+    shows(rt, axis, &before);
     key
 }
 
@@ -31,7 +31,7 @@ fn of_another_axis(rt: HostRuntime) -> Result<(), Fail> {
     hand_back(&rt, &mut two, own);
     hand_back(&rt, &mut one, key);
     clocks(&mut one, &mut card, 5)?;
-    assert_eq!(rt; [one.register(1), two.register(1)], [1, 1]);
+    equal(&rt, [one.register(1), two.register(1)], [1, 1]);
     Ok(())
 }
 
@@ -45,11 +45,11 @@ fn of_another_processor(rt: HostRuntime) -> Result<(), Fail> {
     let key = one.draw()?;
     let key = does_not_fit(&rt, &mut other, key);
     let own = other.draw().expect(&rt, "the other key");
-    assert_eq!(rt; other.set(&key, 1, 7), Ok(()));
+    equal(&rt, other.set(&key, 1, 7), Ok(()));
     hand_back(&rt, &mut other, key);
-    assert_eq!(rt; [one.register(1), other.register(1)], [0, 7]);
+    equal(&rt, [one.register(1), other.register(1)], [0, 7]);
     assert!(rt; other.clock(&mut card).is_ok());
-    assert_eq!(rt; one.clock(&mut card), Err(Refusal::KeyOut));
+    equal(&rt, one.clock(&mut card), Err(Refusal::KeyOut));
     hand_back(&rt, &mut one, own);
     assert!(rt; one.clock(&mut card).is_ok());
     Ok(())
@@ -64,9 +64,9 @@ fn of_an_older_processor(rt: HostRuntime) -> Result<(), Fail> {
     let key = older.draw()?;
     let mut axis = Processor::power_up(1, &mut card).expect(&rt, "axis 1");
     let key = does_not_fit(&rt, &mut axis, key);
-    assert_eq!(rt; clocks(&mut axis, &mut card, 5), Ok(()));
-    assert_eq!(rt; older.clock(&mut card), Err(Refusal::KeyOut));
+    equal(&rt, clocks(&mut axis, &mut card, 5), Ok(()));
+    equal(&rt, older.clock(&mut card), Err(Refusal::KeyOut));
     hand_back(&rt, &mut older, key);
-    assert_eq!(rt; [axis.register(1), older.register(1)], [1, 0]);
+    equal(&rt, [axis.register(1), older.register(1)], [1, 0]);
     Ok(())
 }

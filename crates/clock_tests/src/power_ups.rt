@@ -1,5 +1,5 @@
 // Power-up: its axes, the card's transfer, and power that is cut in an instruction.
-use super::common::{LOAD, View, clocks, instruction};
+use super::common::{LOAD, View, clocks, equal, instruction, shows};
 use card::{Card, Direction, Request, WordCard};
 use clocked::Processor;
 use layer::{Kind, Layer};
@@ -20,9 +20,9 @@ fn refused_axes(rt: HostRuntime) -> Result<(), Fail> {
     card.begin(REQUEST)?;
     for axis in [0, 4, 257, 0xffff_ffff] {
         assert!(rt; matches!(Processor::power_up(axis, &mut card), Err(Refusal::Axis)));
-        assert_eq!(rt; card.poll(), Ok(None));
+        equal(&rt, card.poll(), Ok(None));
     }
-    assert_eq!(rt; card.poll(), Ok(Some(Ok(7))));
+    equal(&rt, card.poll(), Ok(Some(Ok(7))));
     Ok(())
 }
 
@@ -33,11 +33,11 @@ fn accepted_axes(rt: HostRuntime) -> Result<(), Fail> {
         let mut card = WordCard::new(&mut []);
         card.begin(REQUEST)?;
         let mut processor = Processor::power_up(number, &mut card)?;
-        assert_eq!(rt; card.poll(), Err(Refusal::Transfer));
-        assert_eq!(rt; View::of(&processor), View::new());
+        equal(&rt, card.poll(), Err(Refusal::Transfer));
+        shows(&rt, &processor, &View::new());
         clocks(&mut processor, &mut card, 3)?;
         let fault = processor.fault().ok_or("no fault")?;
-        assert_eq!(rt; fault.axis, axis);
+        equal(&rt, fault.axis, axis);
     }
     Ok(())
 }
@@ -51,13 +51,14 @@ fn in_an_instruction(rt: HostRuntime) -> Result<(), Fail> {
         let mut old = Processor::power_up(1, &mut card)?;
         clocks(&mut old, &mut card, count)?;
         let mut axis = Processor::power_up(1, &mut card)?;
-        assert_eq!(rt; card.poll(), Err(Refusal::Transfer));
-        assert_eq!(rt; View::of(&axis), View::new());
-        assert_eq!(rt;
+        equal(&rt, card.poll(), Err(Refusal::Transfer));
+        shows(&rt, &axis, &View::new());
+        equal(
+            &rt,
             instruction(&mut axis, &mut card)?,
-            Some((13, Outcome::Done))
+            Some((13, Outcome::Done)),
         );
-        assert_eq!(rt; axis.register(1), 0x1234);
+        equal(&rt, axis.register(1), 0x1234);
     }
     Ok(())
 }

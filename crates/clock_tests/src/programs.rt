@@ -1,5 +1,5 @@
 // Programs by clock and by instruction: the chapter's test program, and each opcode.
-use super::common::instruction;
+use super::common::{equal, instruction};
 use card::{Card, Cell, Cells, WordCard};
 use clocked::Processor;
 use layer::{Kind, Layer};
@@ -22,11 +22,11 @@ const PROGRAM: [u32; 9] = [
 // The two show the same.
 fn agree(rt: &impl Abort, machine: &Machine, axis: &Processor) {
     for register in 0..=255u8 {
-        assert_eq!(rt; axis.register(register), machine.register(register));
+        equal(rt, axis.register(register), machine.register(register));
     }
-    assert_eq!(rt; axis.flags(), machine.flags());
-    assert_eq!(rt; axis.pc(), machine.pc());
-    assert_eq!(rt; axis.fault(), machine.fault());
+    equal(rt, axis.flags(), machine.flags());
+    equal(rt, axis.pc(), machine.pc());
+    equal(rt, axis.fault(), machine.fault());
 }
 
 // Runs so many instructions on both machines, which agree after each, and in the end in so many cells: how many clocks
@@ -44,12 +44,12 @@ fn in_step<C: Card, D: Card>(
     for _ in 0..instructions {
         let outcome = machine.instruction(plain)?;
         let (count, ended) = instruction(&mut axis, card)?.ok_or("no end")?;
-        assert_eq!(rt; ended, outcome);
+        equal(rt, ended, outcome);
         agree(rt, &machine, &axis);
         clocks = clocks.saturating_add(count);
     }
     for address in 0..cells {
-        assert_eq!(rt; card.look(address), plain.look(address));
+        equal(rt, card.look(address), plain.look(address));
     }
     Ok(clocks)
 }
@@ -58,7 +58,7 @@ fn in_step<C: Card, D: Card>(
 fn clocks_on<C: Card>(rt: &impl Abort, card: &mut C) -> Result<u32, Fail> {
     let mut words = PROGRAM;
     let clocks = in_step(rt, &mut WordCard::new(&mut words), card, 60, 9)?;
-    assert_eq!(rt; card.look(8), Cell::Open(1));
+    equal(rt, card.look(8), Cell::Open(1));
     Ok(clocks)
 }
 
@@ -66,13 +66,12 @@ fn clocks_on<C: Card>(rt: &impl Abort, card: &mut C) -> Result<u32, Fail> {
 #[test]
 fn chapters_program(rt: HostRuntime) -> Result<(), Fail> {
     let mut words = PROGRAM;
-    assert_eq!(rt; clocks_on(&rt, &mut WordCard::new(&mut words))?, 350);
-    let mut words = PROGRAM;
-    let mut slow = Layer::new(Kind::Slow(1), WordCard::new(&mut words));
-    assert_eq!(rt; clocks_on(&rt, &mut slow)?, 434);
-    let mut words = PROGRAM;
-    let mut slower = Layer::new(Kind::Slow(7), WordCard::new(&mut words));
-    assert_eq!(rt; clocks_on(&rt, &mut slower)?, 938);
+    equal(&rt, clocks_on(&rt, &mut WordCard::new(&mut words))?, 350);
+    for (waits, clocks) in [(1, 434), (7, 938)] {
+        let mut words = PROGRAM;
+        let mut slow = Layer::new(Kind::Slow(waits), WordCard::new(&mut words));
+        equal(&rt, clocks_on(&rt, &mut slow)?, clocks);
+    }
     Ok(())
 }
 

@@ -1,5 +1,5 @@
 // A reset in each state, and in the waits of a store.
-use super::common::{View, clocks, count, instruction};
+use super::common::{View, clocks, count, equal, instruction, shows};
 use card::{Card, Cell, Cells, WordCard};
 use clocked::{ControlState, Processor};
 use layer::{Kind, Layer};
@@ -14,20 +14,17 @@ fn after<C: Card>(rt: &impl Abort, card: &mut C, clocked: u32, waits: u8) -> Res
     let mut axis = Processor::power_up(1, card)?;
     let add = Some((count(5, 1, waits), Outcome::Done));
     let load = Some((count(10, 3, waits), Outcome::Done));
-    assert_eq!(rt; instruction(&mut axis, card)?, add);
+    equal(rt, instruction(&mut axis, card)?, add);
     clocks(&mut axis, card, clocked)?;
-    let before = View::of(&axis);
+    let mut shown = View::of(&axis);
     axis.reset(card)?;
-    let shown = View {
-        pc: 0,
-        state: ControlState::Fetch0,
-        ..before
-    };
-    assert_eq!(rt; View::of(&axis), shown);
-    assert_eq!(rt; card.poll(), Err(Refusal::Transfer));
-    assert_eq!(rt; instruction(&mut axis, card)?, add);
-    assert_eq!(rt; instruction(&mut axis, card)?, load);
-    assert_eq!(rt; axis.register(1), 0x1234);
+    shown.pc = 0;
+    shown.state = ControlState::Fetch0;
+    shows(rt, &axis, &shown);
+    equal(rt, card.poll(), Err(Refusal::Transfer));
+    equal(rt, instruction(&mut axis, card)?, add);
+    equal(rt, instruction(&mut axis, card)?, load);
+    equal(rt, axis.register(1), 0x1234);
     Ok(())
 }
 
@@ -52,13 +49,13 @@ fn in_a_store(rt: HostRuntime) -> Result<(), Fail> {
     for clocked in 8..=10 {
         instruction(&mut axis, &mut card)?;
         clocks(&mut axis, &mut card, clocked)?;
-        assert_eq!(rt; axis.state(), ControlState::Execute2);
+        equal(&rt, axis.state(), ControlState::Execute2);
         axis.reset(&mut card)?;
-        assert_eq!(rt; card.look(4), Cell::Open(0));
+        equal(&rt, card.look(4), Cell::Open(0));
     }
     instruction(&mut axis, &mut card)?;
     clocks(&mut axis, &mut card, 11)?;
-    assert_eq!(rt; axis.state(), ControlState::Fetch0);
-    assert_eq!(rt; card.look(4), Cell::Open(7));
+    equal(&rt, axis.state(), ControlState::Fetch0);
+    equal(&rt, card.look(4), Cell::Open(7));
     Ok(())
 }

@@ -1,5 +1,5 @@
 // Each row of the clock table, by each class of instruction, without waits and with them.
-use super::common::View;
+use super::common::{View, equal, shows};
 use ControlState::{
     Decode, DispFetch0, DispFetch1, DispFetch2, Execute0, Execute1, Execute2, Fetch0, Fetch1,
     Fetch2,
@@ -66,12 +66,12 @@ fn clock_in<C: Card>(
         for _ in 0..waits {
             let before = View::of(axis);
             let answer = Answer::Waiting;
-            assert_eq!(rt; axis.clock(card)?, Tick { state, answer });
-            assert_eq!(rt; View::of(axis), before);
+            equal(rt, axis.clock(card)?, Tick { state, answer });
+            shows(rt, axis, &before);
         }
     }
-    assert_eq!(rt; axis.state(), state);
-    assert_eq!(rt; axis.clock(card)?, last);
+    equal(rt, axis.state(), state);
+    equal(rt, axis.clock(card)?, last);
     Ok(())
 }
 
@@ -97,8 +97,8 @@ fn clocks_of<C: Card>(
         answer: Answer::Ended(outcome),
     };
     clock_in(rt, &mut axis, card, waits, tick)?;
-    assert_eq!(rt; axis.state(), Fetch0);
-    assert_eq!(rt; axis.fault(), None);
+    equal(rt, axis.state(), Fetch0);
+    equal(rt, axis.fault(), None);
     Ok(())
 }
 

@@ -1,5 +1,5 @@
 // Calls of an axis in a row, each with what it has to answer: a script is data, which a check reads faster than code.
-use super::common::{View, clocks, hand_back, refused_draw};
+use super::common::{View, clocks, equal, hand_back, refused_draw, shows};
 use card::{Card, End, Request};
 use clocked::{ControlState, Key, NotTaken, Processor, Tick};
 use machine::Fault;
@@ -42,22 +42,28 @@ pub type Answer = Result<Said, Refusal>;
 
 // A call without the key.
 fn asked<C: Card>(rt: &impl Abort, axis: &mut Processor, card: &mut C, call: Call) -> Answer {
-    match call {
-        Call::Clock => Ok(Said::Tick(axis.clock(card)?)),
-        Call::Clocks(count) => clocks(axis, card, count).map(|()| Said::Nothing),
-        Call::Reset => axis.reset(card).map(|()| Said::Nothing),
-        Call::Begin(request) => Ok(Said::Waits(card.begin(request)?)),
-        Call::Poll => Ok(Said::End(card.poll()?)),
+    Ok(match call {
+        Call::Clock => Said::Tick(axis.clock(card)?),
+        Call::Clocks(count) => {
+            clocks(axis, card, count)?;
+            Said::Nothing
+        }
+        Call::Reset => {
+            axis.reset(card)?;
+            Said::Nothing
+        }
+        Call::Begin(request) => Said::Waits(card.begin(request)?),
+        Call::Poll => Said::End(card.poll()?),
         Call::Cancel => {
             card.cancel();
-            Ok(Said::Nothing)
+            Said::Nothing
         }
-        Call::Register(register) => Ok(Said::Word(axis.register(register))),
-        Call::Pc => Ok(Said::Word(axis.pc())),
-        Call::State => Ok(Said::State(axis.state())),
-        Call::Fault => Ok(Said::Fault(axis.fault())),
+        Call::Register(register) => Said::Word(axis.register(register)),
+        Call::Pc => Said::Word(axis.pc()),
+        Call::State => Said::State(axis.state()),
+        Call::Fault => Said::Fault(axis.fault()),
         Call::Draw | Call::Set(_, _) | Call::GiveBack => panic!(rt; "no key is out"),
-    }
+    })
 }
 
 // A call with the key, if it is out, and the key afterwards.
@@ -74,10 +80,10 @@ fn answered<C: Card>(
             Err(refusal) => (None, Err(refusal)),
         },
         (Call::Draw, Some(key)) => (Some(key), Err(refused_draw(rt, axis))),
-        (Call::Set(register, word), Some(key)) => {
-            let answer = axis.set(&key, register, word).map(|()| Said::Nothing);
-            (Some(key), answer)
-        }
+        (Call::Set(register, word), Some(key)) => match axis.set(&key, register, word) {
+            Ok(()) => (Some(key), Ok(Said::Nothing)),
+            Err(refusal) => (Some(key), Err(refusal)),
+        },
         (Call::GiveBack, Some(key)) => match axis.give_back(key) {
             Ok(()) => (None, Ok(Said::Nothing)),
             Err(NotTaken { key, refusal }) => (Some(key), Err(refusal)),
@@ -98,9 +104,9 @@ pub fn follows<C: Card>(
         let before = View::of(&axis);
         let (left, answer) = answered(rt, &mut axis, card, key, *call);
         key = left;
-        assert_eq!(rt; answer, *expected);
+        equal(rt, answer, *expected);
         if answer.is_err() {
-            assert_eq!(rt; View::of(&axis), before);
+            shows(rt, &axis, &before);
         }
     }
     if let Some(key) = key {

@@ -1,7 +1,7 @@
 // What an axis shows after each clock of an instruction: PC moves on, and the rest changes with the last clock only.
-use super::common::View;
+use super::common::{View, equal, shows};
 use card::{Card, Cell, Cells, WordCard};
-use clocked::{Answer, Processor};
+use clocked::{Answer, ControlState, Processor};
 use isa::Flags;
 use layer::{Kind, Layer};
 use std::process::Abort;
@@ -46,20 +46,16 @@ fn after_each_clock(rt: HostRuntime) -> Result<(), Fail> {
         let mut axis = Processor::power_up(1, &mut card)?;
         let mut shown = View::new();
         for pc in pcs.iter() {
-            assert_eq!(rt;
-                View {
-                    state: shown.state,
-                    ..View::of(&axis)
-                },
-                shown
-            );
+            shown.state = axis.state();
+            shows(&rt, &axis, &shown);
             if let Answer::Ended(_) = axis.clock(&mut card)?.answer {
                 shown.registers[1] = *register;
                 shown.flags = *flags;
             }
             shown.pc = *pc;
         }
-        assert_eq!(rt; View::of(&axis), shown, "{word:08x}");
+        shown.state = ControlState::Fetch0;
+        shows(&rt, &axis, &shown);
     }
     Ok(())
 }
@@ -68,9 +64,9 @@ fn after_each_clock(rt: HostRuntime) -> Result<(), Fail> {
 fn stores<C: Card>(rt: &impl Abort, card: &mut C) -> Result<(), Fail> {
     let mut axis = Processor::power_up(1, card)?;
     for _ in 0..100 {
-        assert_eq!(rt; card.look(4), Cell::Open(0x1234));
+        equal(rt, card.look(4), Cell::Open(0x1234));
         if let Answer::Ended(_) = axis.clock(card)?.answer {
-            assert_eq!(rt; card.look(4), Cell::Open(0));
+            equal(rt, card.look(4), Cell::Open(0));
             return Ok(());
         }
     }
@@ -102,7 +98,7 @@ fn a_pending_result(rt: HostRuntime) -> Result<(), Fail> {
         }
         shown.registers[register] = word;
         shown.pc = pc;
-        assert_eq!(rt; View::of(&axis), shown);
+        shows(&rt, &axis, &shown);
     }
     Ok(())
 }

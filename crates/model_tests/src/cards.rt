@@ -1,5 +1,5 @@
 // The two bottom cards at their ends, and calls out of order.
-use super::common::{fault, shows};
+use super::common::{equal, fault, shows};
 use card::{BootCard, Card, Cause, Cell, Cells, Direction, End, Origin, Request, WordCard};
 use refusal::Refusal;
 use std::process::Abort;
@@ -28,7 +28,7 @@ fn accesses<C: Card>(
     rows: &[(Direction, u32, End)],
 ) -> Result<(), Fail> {
     for (direction, address, end) in rows {
-        assert_eq!(rt; access(card, *direction, *address)?, *end);
+        equal(rt, access(card, *direction, *address)?, *end);
     }
     Ok(())
 }
@@ -51,9 +51,9 @@ fn word_card_at_its_ends(rt: HostRuntime) -> Result<(), Fail> {
     ];
     accesses(&rt, &mut card, &rows)?;
     card.place(0, 4)?;
-    assert_eq!(rt; card.place(3, 4), Err(Refusal::NotOpen));
-    assert_eq!(rt; card.patience(), 0);
-    assert_eq!(rt; words, [4, 6, 9]);
+    equal(&rt, card.place(3, 4), Err(Refusal::NotOpen));
+    equal(&rt, card.patience(), 0);
+    equal(&rt, words, [4, 6, 9]);
     Ok(())
 }
 
@@ -73,7 +73,7 @@ fn largest_cards(rt: HostRuntime) -> Result<(), Fail> {
     ];
     shows(&rt, &card, &cells);
     card.place(65_535, 2)?;
-    assert_eq!(rt; card.place(65_536, 2), Err(Refusal::NotOpen));
+    equal(&rt, card.place(65_536, 2), Err(Refusal::NotOpen));
     Ok(())
 }
 
@@ -86,9 +86,9 @@ fn boot_card_is_fixed(rt: HostRuntime) -> Result<(), Fail> {
         (Direction::Write(7), 1, fault(Cause::Fixed, 1, 0)),
     ];
     accesses(&rt, &mut card, &rows)?;
-    assert_eq!(rt; card.place(1, 7), Err(Refusal::NotOpen));
-    assert_eq!(rt; card.look(1), Cell::Fixed(6, here(1)));
-    assert_eq!(rt; card.patience(), 0);
+    equal(&rt, card.place(1, 7), Err(Refusal::NotOpen));
+    equal(&rt, card.look(1), Cell::Fixed(6, here(1)));
+    equal(&rt, card.patience(), 0);
     Ok(())
 }
 
@@ -98,16 +98,16 @@ fn out_of_order<C: Card>(rt: &impl Abort, card: &mut C, placed: bool) -> Result<
         direction: Direction::Read,
         address: 0,
     };
-    assert_eq!(rt; card.poll(), Err(Refusal::Transfer));
+    equal(rt, card.poll(), Err(Refusal::Transfer));
     card.begin(request)?;
-    assert_eq!(rt; card.begin(request), Err(Refusal::Transfer));
-    assert_eq!(rt; card.place(0, 8).is_ok(), placed);
+    equal(rt, card.begin(request), Err(Refusal::Transfer));
+    equal(rt, card.place(0, 8).is_ok(), placed);
     let word = if placed { 8 } else { 5 };
-    assert_eq!(rt; card.poll(), Ok(Some(Ok(word))));
-    assert_eq!(rt; card.poll(), Err(Refusal::Transfer));
+    equal(rt, card.poll(), Ok(Some(Ok(word))));
+    equal(rt, card.poll(), Err(Refusal::Transfer));
     card.begin(request)?;
     card.cancel();
-    assert_eq!(rt; card.poll(), Err(Refusal::Transfer));
+    equal(rt, card.poll(), Err(Refusal::Transfer));
     Ok(())
 }
 

@@ -1,5 +1,6 @@
 // Lines, and what `read` answers, each by its debug text, so that a row stays a line. In two tables, since the check of one has
 // a limit.
+use super::common::equal;
 use command::{Bottom, MachineKind, Wrong, read};
 use std::alloc::{AllocError, AllocFailed, Global};
 use std::process::Abort;
@@ -164,32 +165,33 @@ fn mistakes_are_read(rt: HostRuntime) -> Result<(), Fail> {
 fn are_read(rt: &impl Abort, heap: Global, lines: &[(&[u8], &str)]) -> Result<(), Fail> {
     for (line, expected) in lines {
         let found = format!(in heap; "{:?}", read(heap, *line))?;
-        assert_eq!(rt; found.as_str(), *expected);
+        equal(rt, found.as_str(), *expected);
     }
     Ok(())
 }
 
 #[test]
 fn cards_and_machines_have_names(rt: HostRuntime) {
-    assert_eq!(rt; Bottom::try_from(b"boot".as_slice()), Ok(Bottom::Boot));
-    assert_eq!(rt;
-        Bottom::try_from(b"Boot".as_slice()),
-        Err(Wrong::UnknownCard)
-    );
-    assert_eq!(rt;
-        MachineKind::try_from(b"clock".as_slice()),
-        Ok(MachineKind::ByClock)
-    );
-    assert_eq!(rt;
-        MachineKind::try_from(b"Clock".as_slice()),
-        Err(Wrong::UnknownMachine)
-    );
+    let cards: [(&[u8], Result<Bottom, Wrong>); 2] = [
+        (b"boot", Ok(Bottom::Boot)),
+        (b"Boot", Err(Wrong::UnknownCard)),
+    ];
+    for (name, card) in cards {
+        equal(&rt, Bottom::try_from(name), card);
+    }
+    let machines: [(&[u8], Result<MachineKind, Wrong>); 2] = [
+        (b"clock", Ok(MachineKind::ByClock)),
+        (b"Clock", Err(Wrong::UnknownMachine)),
+    ];
+    for (name, machine) in machines {
+        equal(&rt, MachineKind::try_from(name), machine);
+    }
 }
 
 #[test]
 fn lack_of_memory_is_a_mistake(rt: HostRuntime) -> Result<(), Fail> {
     let failed = AllocFailed { value: 7u32 };
     let text = format!(in rt.alloc(); "{}, {}", Wrong::from(AllocError), Wrong::from(failed))?;
-    assert_eq!(rt; text.as_str(), "no memory is left, no memory is left");
+    equal(&rt, text.as_str(), "no memory is left, no memory is left");
     Ok(())
 }

@@ -1,4 +1,5 @@
 // Addresses across the end of memory, with waits.
+use super::common::equal;
 use super::edge_card::EdgeCard;
 use card::{Card, Cause, Cell, Cells, Direction, Origin, Request};
 use machine::{Axis, Fault, Machine, Outcome, Stage};
@@ -14,8 +15,8 @@ fn steps(
     rows: &[(Result<Outcome, Refusal>, u32)],
 ) {
     for (answer, pc) in rows {
-        assert_eq!(rt; axis.instruction(card), *answer);
-        assert_eq!(rt; axis.pc(), *pc);
+        equal(rt, axis.instruction(card), *answer);
+        equal(rt, axis.pc(), *pc);
     }
 }
 
@@ -59,7 +60,7 @@ fn load_and_store_at_the_last_addresses(rt: HostRuntime) -> Result<(), Fail> {
             layer: 0,
         },
     };
-    assert_eq!(rt; axis.fault(), Some(fault));
+    equal(&rt, axis.fault(), Some(fault));
     // the load at 0xffffffff has its displacement at 0
     axis.reset();
     card.place(0, 0x5100_00ff)?;
@@ -71,7 +72,7 @@ fn load_and_store_at_the_last_addresses(rt: HostRuntime) -> Result<(), Fail> {
     );
     card.place(0, 1)?;
     steps(&rt, &mut axis, &mut card, &[(Ok(Outcome::Done), 1)]);
-    assert_eq!(rt; axis.register(2), 0x5100_00ff);
+    equal(&rt, axis.register(2), 0x5100_00ff);
     Ok(())
 }
 
@@ -84,11 +85,11 @@ fn foreign_transfer(rt: HostRuntime) -> Result<(), Fail> {
         direction: Direction::Read,
         address: 5,
     };
-    assert_eq!(rt; card.begin(request), Ok(1));
+    equal(&rt, card.begin(request), Ok(1));
     steps(&rt, &mut axis, &mut card, &[(Err(Refusal::Transfer), 0)]);
-    assert_eq!(rt; card.begin(request), Err(Refusal::Transfer));
+    equal(&rt, card.begin(request), Err(Refusal::Transfer));
     assert!(rt; matches!(Machine::power_up(4, &mut card), Err(Refusal::Axis)));
-    assert_eq!(rt; card.begin(request), Err(Refusal::Transfer));
+    equal(&rt, card.begin(request), Err(Refusal::Transfer));
     assert!(rt; Machine::power_up(1, &mut card).is_ok());
     steps(&rt, &mut axis, &mut card, &[(Ok(Outcome::Ignored), 1)]);
     Ok(())
@@ -108,12 +109,12 @@ fn past_the_last_address(rt: HostRuntime) -> Result<(), Fail> {
     );
     card.place(5, 9)?;
     steps(&rt, &mut axis, &mut card, &[(Ok(Outcome::Done), 0)]);
-    assert_eq!(rt; card.look(5), Cell::Open(0));
+    equal(&rt, card.look(5), Cell::Open(0));
     let mut card = EdgeCard::new([0x5100_00ff, 0, 0, 0, 0, 0, 0, 0], [0x1004_0006; 8]);
     let mut axis = Machine::power_up(1, &mut card)?;
     let rows = [(Ok(Outcome::Done), 0xffff_ffff), (Ok(Outcome::Done), 0)];
     steps(&rt, &mut axis, &mut card, &rows);
-    assert_eq!(rt; axis.register(4), 6);
+    equal(&rt, axis.register(4), 6);
     Ok(())
 }
 
@@ -122,7 +123,7 @@ fn past_the_last_address(rt: HostRuntime) -> Result<(), Fail> {
 fn halted_before_busy(rt: HostRuntime) -> Result<(), Fail> {
     let mut card = EdgeCard::new([0x2101_0000, 100, 0, 0, 0, 0, 0, 0], [0; 8]);
     let mut axis = Machine::power_up(1, &mut card)?;
-    assert_eq!(rt; axis.instruction(&mut card), Ok(Outcome::Halted));
+    equal(&rt, axis.instruction(&mut card), Ok(Outcome::Halted));
     assert!(rt;
         card.begin(Request {
             direction: Direction::Read,

@@ -1,7 +1,9 @@
 // Images that are nearly right, segments at the ends, and placing on a word card.
+use super::common::equal;
 use card::{Card, Cells, Direction, Request, WordCard};
 use image::{Image, NotPlaced};
 use refusal::Refusal;
+use std::process::Abort;
 use std::test::Fail;
 
 // An image as its numbers: the count, two pairs and three words.
@@ -34,7 +36,7 @@ fn refusals(rt: HostRuntime) {
         (&[0, 0, 0, 1, 0, 0, 0, 0, 0, 0, 0, 1], Some(Refusal::Length)),
     ];
     for (bytes, expected) in rows {
-        assert_eq!(rt; verdict(bytes), expected);
+        equal(&rt, verdict(bytes), expected);
     }
 }
 
@@ -86,63 +88,31 @@ fn many(count: u8) -> [u8; 784] {
 
 #[test]
 fn many_segments(rt: HostRuntime) {
-    assert_eq!(rt; verdict(&many(64)[0..772]), None);
-    assert_eq!(rt; verdict(&many(64)), Some(Refusal::Length));
-    assert_eq!(rt; verdict(&many(65)), Some(Refusal::Count));
+    equal(&rt, verdict(&many(64)[0..772]), None);
+    equal(&rt, verdict(&many(64)), Some(Refusal::Length));
+    equal(&rt, verdict(&many(65)), Some(Refusal::Count));
 }
 
-#[test]
-fn no_segment(rt: HostRuntime) {
-    assert!(rt; Image::empty().segment(0).is_none());
+// The image's segments in their order, and none after them.
+fn has_segments(rt: &impl Abort, image: Image, segments: &[(u32, &[u8])]) -> Result<(), Fail> {
+    for (n, (offset, words)) in segments.iter().enumerate() {
+        let segment = image.segment(n).ok_or("a segment too few")?;
+        equal(rt, (segment.offset, segment.words), (*offset, *words));
+    }
+    assert!(rt; image.segment(segments.len()).is_none());
+    Ok(())
 }
 
+// The check of its bytes cut short, which is refused, leaves the image.
 #[test]
 fn segments(rt: HostRuntime) -> Result<(), Fail> {
+    has_segments(&rt, Image::empty(), &[])?;
     let bytes = image([2, 2, 2, 4, 1, 0x1020304, 0x5060708, 0x90a0b0c]);
-    let image = Image::try_from(bytes.as_flattened())?;
-    let first = image.segment(0).ok_or("no first")?;
-    assert_eq!(rt; first.offset, 2);
-    assert_eq!(rt; first.words, [1, 2, 3, 4, 5, 6, 7, 8].as_slice());
-    let last = image.segment(1).ok_or("no last")?;
-    assert_eq!(rt; last.offset, 4);
-    assert_eq!(rt; last.words, [9, 10, 11, 12].as_slice());
-    assert!(rt; image.segment(2).is_none());
-    Ok(())
-}
-
-#[test]
-fn a_refusal_keeps_the_image(rt: HostRuntime) -> Result<(), Fail> {
-    let bytes = image([2, 2, 2, 4, 1, 7, 8, 9]);
-    let image = Image::try_from(bytes.as_flattened())?;
-    assert_eq!(rt;
-        verdict(&bytes.as_flattened()[0..31]),
-        Some(Refusal::Length)
-    );
-    let last = image.segment(1).ok_or("no last")?;
-    assert_eq!(rt; last.offset, 4);
-    assert_eq!(rt; last.words, [0, 0, 0, 9].as_slice());
-    Ok(())
-}
-
-#[test]
-fn placing(rt: HostRuntime) -> Result<(), Fail> {
-    let bytes = image([2, 1, 1, 3, 2, 10, 11, 12]);
-    let image = Image::try_from(bytes.as_flattened())?;
-    let mut words = [7; 5];
-    let mut card = WordCard::new(&mut words);
-    let request = Request {
-        direction: Direction::Read,
-        address: 0,
-    };
-    card.begin(request)?;
-    assert!(rt; image.place(&mut card).is_ok());
-    assert_eq!(rt;
-        card.begin(request),
-        Err(Refusal::Transfer),
-        "still in being"
-    );
-    assert_eq!(rt; words, [7, 10, 7, 11, 12]);
-    Ok(())
+    let bytes = bytes.as_flattened();
+    let image = Image::try_from(bytes)?;
+    equal(&rt, verdict(&bytes[0..31]), Some(Refusal::Length));
+    let segments: [(u32, &[u8]); 2] = [(2, &[1, 2, 3, 4, 5, 6, 7, 8]), (4, &[9, 10, 11, 12])];
+    has_segments(&rt, image, &segments)
 }
 
 #[test]
@@ -150,10 +120,13 @@ fn refused_at_the_last_word(rt: HostRuntime) -> Result<(), Fail> {
     let bytes = image([2, 1, 1, 3, 2, 10, 11, 12]);
     let image = Image::try_from(bytes.as_flattened())?;
     let mut words = [7; 4];
-    let mut card = WordCard::new(&mut words);
-    assert_eq!(rt; image.place(&mut card), Err(NotPlaced { address: 4 }));
-    assert_eq!(rt; Refusal::from(NotPlaced { address: 4 }), Refusal::NotOpen);
-    assert_eq!(rt; words, [7; 4]);
+    let refused = NotPlaced { address: 4 };
+    equal(
+        &rt,
+        image.place(&mut WordCard::new(&mut words)),
+        Err(refused),
+    );
+    equal(&rt, Refusal::from(refused), Refusal::NotOpen);
     Ok(())
 }
 
@@ -163,20 +136,34 @@ fn load<C: Cells>(bytes: &[u8], card: &mut C) -> Result<(), Refusal> {
     Ok(())
 }
 
+// An image, the answer of its load on a card whose words are 7, and these words afterwards.
+static LOADS: [([u32; 8], Result<(), Refusal>, &[u32]); 3] = [
+    ([2, 1, 1, 3, 2, 10, 11, 12], Ok(()), &[7, 10, 7, 11, 12]),
+    ([2, 1, 1, 3, 2, 10, 11, 12], Err(Refusal::NotOpen), &[7; 4]),
+    ([2, 1, 1, 1, 2, 10, 11, 12], Err(Refusal::Pair), &[7; 5]),
+];
+
+// A transfer in being stays, whether the image is placed or not.
 #[test]
-fn loading(rt: HostRuntime) {
-    let right = image([2, 1, 1, 3, 2, 10, 11, 12]);
-    let wrong = image([2, 1, 1, 1, 2, 10, 11, 12]);
-    let mut words = [7; 5];
-    let mut card = WordCard::new(&mut words);
-    assert_eq!(rt; load(wrong.as_flattened(), &mut card), Err(Refusal::Pair));
-    assert_eq!(rt; load(right.as_flattened(), &mut card), Ok(()));
-    let mut few = [7; 4];
-    let mut small = WordCard::new(&mut few);
-    assert_eq!(rt;
-        load(right.as_flattened(), &mut small),
-        Err(Refusal::NotOpen)
-    );
-    assert_eq!(rt; words, [7, 10, 7, 11, 12]);
-    assert_eq!(rt; few, [7; 4]);
+fn loads(rt: HostRuntime) -> Result<(), Fail> {
+    let request = Request {
+        direction: Direction::Read,
+        address: 0,
+    };
+    for (numbers, answer, after) in &LOADS {
+        let mut words = [7; 5];
+        let (words, _) = words
+            .split_at_mut_checked(after.len())
+            .ok_or("a long card")?;
+        let mut card = WordCard::new(words);
+        card.begin(request)?;
+        equal(
+            &rt,
+            load(image(*numbers).as_flattened(), &mut card),
+            *answer,
+        );
+        equal(&rt, card.begin(request), Err(Refusal::Transfer));
+        equal(&rt, &*words, *after);
+    }
+    Ok(())
 }

@@ -1,4 +1,5 @@
 // The instruction set: ends of the range, fields, every opcode, every mask at every setting of the flags.
+use super::common::equal;
 use isa::{Arithmetic, Class, Entry, Flags, Form, Instruction, Logical, Mask, decode};
 
 const MIN: u32 = 0x8000_0000;
@@ -46,7 +47,7 @@ fn arithmetic(rt: HostRuntime) {
         (Arithmetic::Div, MINUS_1, 0, (MIN, true, true, false)),
     ];
     for (operation, a, b, expected) in rows {
-        assert_eq!(rt; operation.apply(a, b), expected);
+        equal(&rt, operation.apply(a, b), expected);
     }
 }
 
@@ -69,14 +70,19 @@ fn logic(rt: HostRuntime) {
                 n: !old,
                 z: old,
             };
-            assert_eq!(rt; operation.apply(a, b, flags), (word, old, !old, word == 0));
+            equal(
+                &rt,
+                operation.apply(a, b, flags),
+                (word, old, !old, word == 0),
+            );
         }
     }
 }
 
 #[test]
 fn fields(rt: HostRuntime) {
-    assert_eq!(rt;
+    equal(
+        &rt,
         Instruction::from(0x1005_03ff),
         Instruction {
             opcode: 0x10,
@@ -89,7 +95,7 @@ fn fields(rt: HostRuntime) {
                 n: false,
                 z: true,
             },
-        }
+        },
     );
     for (word, immediate) in [
         (0xffff_ff00, 0),
@@ -97,7 +103,7 @@ fn fields(rt: HostRuntime) {
         (0x80, 0xffff_ff80),
         (0xff, 0xffff_ffff),
     ] {
-        assert_eq!(rt; Instruction::from(word).immediate(), immediate);
+        equal(&rt, Instruction::from(word).immediate(), immediate);
     }
 }
 
@@ -112,9 +118,10 @@ fn branches(rt: HostRuntime) {
                 z: set % 2 == 1,
             };
             let some = mask % 8 & set != 0;
-            assert_eq!(rt;
+            equal(
+                &rt,
                 Instruction::from(mask << 16).mask.taken(flags),
-                some == (mask >= 8)
+                some == (mask >= 8),
             );
         }
     }
@@ -150,6 +157,6 @@ fn opcodes(rt: HostRuntime) {
             .into_iter()
             .find(|row| row.0 == opcode)
             .unwrap_or((opcode, Class::Unknown, 4));
-        assert_eq!(rt; decode(opcode), Entry { class, clocks });
+        equal(&rt, decode(opcode), Entry { class, clocks });
     }
 }

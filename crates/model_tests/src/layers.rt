@@ -1,8 +1,9 @@
 // Layers: origins through a stack, waits, and what a layer leaves of the card below.
-use super::common::{fault, run, shows};
+use super::common::{equal, fault, run, shows};
 use super::edge_card::EdgeCard;
 use card::{BootCard, Card, Cause, Cell, Cells, Direction, End, Origin, Request, WordCard};
 use layer::{Kind, Layer};
+use machine::Machine;
 use refusal::Refusal;
 use std::process::Abort;
 use std::test::Fail;
@@ -35,8 +36,8 @@ fn offsets_at_their_ends(rt: HostRuntime) -> Result<(), Fail> {
     let cells = [(3, absent(3, 0)), (4, Cell::Open(5)), (5, absent(1, 1))];
     shows(&rt, &card, &cells);
     card.place(4, 6)?;
-    assert_eq!(rt; card.place(3, 6), Err(Refusal::NotOpen));
-    assert_eq!(rt; card.look(4), Cell::Open(6));
+    equal(&rt, card.place(3, 6), Err(Refusal::NotOpen));
+    equal(&rt, card.look(4), Cell::Open(6));
     Ok(())
 }
 
@@ -52,7 +53,7 @@ fn guards_at_their_ends(rt: HostRuntime) -> Result<(), Fail> {
         (4, absent(4, 1)),
     ];
     shows(&rt, &card, &cells);
-    assert_eq!(rt; card.place(2, 9), Err(Refusal::NotOpen));
+    equal(&rt, card.place(2, 9), Err(Refusal::NotOpen));
     card.place(3, 9)?;
     // first above last guards nothing
     let mut words = [5, 6, 7];
@@ -77,9 +78,9 @@ fn waited<C: Card>(
 ) -> Result<(u16, End), Fail> {
     let request = Request { direction, address };
     let waits = card.begin(request)?;
-    assert_eq!(rt; card.begin(request), Err(Refusal::Transfer));
+    equal(rt, card.begin(request), Err(Refusal::Transfer));
     for _ in 0..waits {
-        assert_eq!(rt; card.poll(), Ok(None));
+        equal(rt, card.poll(), Ok(None));
     }
     let end = card.poll()?.ok_or("the transfer does not end")?;
     Ok((waits, end))
@@ -92,61 +93,67 @@ fn transfers<C: Card>(
     rows: &[(Direction, u32, u16, End)],
 ) -> Result<(), Fail> {
     for (direction, address, waits, end) in rows {
-        assert_eq!(rt; waited(rt, card, *direction, *address)?, (*waits, *end));
+        equal(rt, waited(rt, card, *direction, *address)?, (*waits, *end));
     }
     Ok(())
 }
 
+// A layer of this kind over the card: its patience, and transfers through it.
+fn through<C: Card + Drop>(
+    rt: &impl Abort,
+    kind: Kind,
+    below: C,
+    patience: u16,
+    rows: &[(Direction, u32, u16, End)],
+) -> Result<Layer<C>, Fail> {
+    let mut card = Layer::new(kind, below);
+    equal(rt, card.patience(), patience);
+    transfers(rt, &mut card, rows)?;
+    Ok(card)
+}
+
+// The card at the bottom waits by its address, and the slow layer adds to that; what a layer refuses itself has no waits.
 #[test]
 fn waits_through_a_stack(rt: HostRuntime) -> Result<(), Fail> {
-    let below = EdgeCard::new([0; 8], [0; 8]);
-    let mut slow = Layer::new(Kind::Slow(200), below);
-    assert_eq!(rt; slow.patience(), 203);
-    transfers(&rt, &mut slow, &[(Direction::Read, 3, 203, Ok(0))])?;
-    let mut offset = Layer::new(Kind::Offset(2), slow);
-    transfers(&rt, &mut offset, &[(Direction::Read, 4, 202, Ok(0))])?;
-    let mut card = Layer::new(Kind::Guard(1, 1), offset);
-    assert_eq!(rt; card.patience(), 203);
-    // the card below waits by its address, and the slow layer adds to that; what a layer refuses itself has no waits
+    let bottom = EdgeCard::new([0; 8], [0; 8]);
+    let rows = [(Direction::Read, 3, 203, Ok(0))];
+    let slow = through(&rt, Kind::Slow(200), bottom, 203, &rows)?;
+    let rows = [(Direction::Read, 4, 202, Ok(0))];
+    let offset = through(&rt, Kind::Offset(2), slow, 203, &rows)?;
     let rows = [
         (Direction::Read, 5, 203, Ok(0)),
         (Direction::Write(7), 6, 200, Ok(7)),
         (Direction::Read, 1, 0, fault(Cause::Absent, 1, 1)),
     ];
-    transfers(&rt, &mut card, &rows)?;
-    assert_eq!(rt; card.look(6), Cell::Open(7));
-    let mut card = Layer::new(Kind::Guard(4, 5), card);
+    let guard = through(&rt, Kind::Guard(1, 1), offset, 203, &rows)?;
+    shows(&rt, &guard, &[(6, Cell::Open(7))]);
     let rows = [
         (Direction::Write(9), 5, 0, fault(Cause::Fixed, 5, 0)),
         (Direction::Read, 5, 203, Ok(0)),
         (Direction::Write(9), 20, 202, fault(Cause::Fixed, 18, 4)),
     ];
-    transfers(&rt, &mut card, &rows)
+    through(&rt, Kind::Guard(4, 5), guard, 203, &rows)?;
+    Ok(())
 }
 
-// The longest transfer takes as long as the patience, and the one at address 0 three waits less.
-fn waits_up_to<C: Card>(rt: &impl Abort, card: &mut C, patience: u16) -> Result<(), Fail> {
-    assert_eq!(rt; card.patience(), patience);
+// The longest transfer of a slow layer takes as long as its patience, and the one at address 0 three waits less.
+fn slower<C: Card + Drop>(rt: &impl Abort, below: C, patience: u16) -> Result<Layer<C>, Fail> {
     let rows = [
         (Direction::Read, 3, patience, Ok(0)),
         (Direction::Read, 0, patience.saturating_sub(3), Ok(0)),
     ];
-    transfers(rt, card, &rows)
+    through(rt, Kind::Slow(255), below, patience, &rows)
 }
 
-// The waits of slow layers stop at 4,096: three of 255 on a card that waits as under fourteen of them, and a further one.
+// The waits of slow layers stop at 4,096: four of 255 on a card that waits as under fourteen of them.
 #[test]
 fn waits_stop_at_their_most(rt: HostRuntime) -> Result<(), Fail> {
-    let mut fourteen = EdgeCard::under(14, 14 * 255 - 3);
-    waits_up_to(&rt, &mut fourteen, 3570)?;
-    let mut fifteen = Layer::new(Kind::Slow(255), fourteen);
-    waits_up_to(&rt, &mut fifteen, 3825)?;
-    let mut sixteen = Layer::new(Kind::Slow(255), fifteen);
-    waits_up_to(&rt, &mut sixteen, 4080)?;
-    let mut seventeen = Layer::new(Kind::Slow(255), sixteen);
-    waits_up_to(&rt, &mut seventeen, 4096)?;
-    let mut eighteen = Layer::new(Kind::Slow(255), seventeen);
-    waits_up_to(&rt, &mut eighteen, 4096)
+    let fourteen = EdgeCard::under(14, 14 * 255 - 3);
+    let fifteen = slower(&rt, fourteen, 3825)?;
+    let sixteen = slower(&rt, fifteen, 4080)?;
+    let seventeen = slower(&rt, sixteen, 4096)?;
+    slower(&rt, seventeen, 4096)?;
+    Ok(())
 }
 
 // The layer number of an origin that has so many layers above it already, seen through two more and through three.
@@ -160,12 +167,13 @@ fn layer_numbers_stop_at_255(rt: HostRuntime) -> Result<(), Fail> {
     ] {
         let below = Layer::new(Kind::Slow(0), EdgeCard::under(layers, 0));
         let two = Layer::new(Kind::Guard(0, 9), below);
-        assert_eq!(rt; two.look(9), fixed(0, 9, through_two));
+        equal(&rt, two.look(9), fixed(0, 9, through_two));
         let mut three = Layer::new(Kind::Offset(1), two);
-        assert_eq!(rt; three.look(9), fixed(0, 8, through_three));
-        assert_eq!(rt;
+        equal(&rt, three.look(9), fixed(0, 8, through_three));
+        equal(
+            &rt,
             waited(&rt, &mut three, Direction::Write(5), 9)?,
-            (0, fault(Cause::Fixed, 8, through_three))
+            (0, fault(Cause::Fixed, 8, through_three)),
         );
     }
     Ok(())
@@ -181,13 +189,33 @@ fn made_during_a_transfer(rt: HostRuntime) -> Result<(), Fail> {
     };
     below.begin(request)?;
     let mut card = Layer::new(Kind::Slow(0), below);
-    assert_eq!(rt; card.poll(), Err(Refusal::Transfer));
-    assert_eq!(rt; card.begin(request), Ok(3));
-    assert_eq!(rt; card.poll(), Ok(None));
+    equal(&rt, card.poll(), Err(Refusal::Transfer));
+    equal(&rt, card.begin(request), Ok(3));
+    equal(&rt, card.poll(), Ok(None));
     card.cancel();
-    assert_eq!(rt; card.poll(), Err(Refusal::Transfer));
-    assert_eq!(rt; card.look(3), Cell::Open(1));
+    equal(&rt, card.poll(), Err(Refusal::Transfer));
+    equal(&rt, card.look(3), Cell::Open(1));
     Ok(())
+}
+
+// But for their origins the cells of both are the same.
+fn same_cells<C: Cells, D: Cells>(rt: &impl Abort, card: &C, other: &D) {
+    for address in 0..12u32 {
+        match (card.look(address), other.look(address)) {
+            (Cell::Open(a), Cell::Open(b)) => assert!(rt; a == b),
+            (Cell::Absent(_), Cell::Absent(_)) => {}
+            _ => panic!(rt; "a cell differs"),
+        }
+    }
+}
+
+// The registers, flags and PC of both are the same.
+fn same_state(rt: &impl Abort, axis: &Machine, other: &Machine) {
+    for register in 0..=255u8 {
+        equal(rt, axis.register(register), other.register(register));
+    }
+    equal(rt, axis.flags(), other.flags());
+    equal(rt, axis.pc(), other.pc());
 }
 
 // The chapter's test program on a stack of three slow layers, and on the bare card.
@@ -208,24 +236,10 @@ fn slow_layers_change_nothing_but_waits(rt: HostRuntime) -> Result<(), Fail> {
     let mut bare = WordCard::new(&mut words);
     let plain = run(&rt, &mut bare, 60)?;
     let mut words = program;
-    let bottom = WordCard::new(&mut words);
-    let mut stack = Layer::new(
-        Kind::Slow(0),
-        Layer::new(Kind::Slow(255), Layer::new(Kind::Slow(3), bottom)),
-    );
+    let lower = Layer::new(Kind::Slow(3), WordCard::new(&mut words));
+    let mut stack = Layer::new(Kind::Slow(0), Layer::new(Kind::Slow(255), lower));
     let slowed = run(&rt, &mut stack, 60)?;
-    for register in 0..=255u8 {
-        assert_eq!(rt; plain.register(register), slowed.register(register));
-    }
-    assert_eq!(rt; plain.flags(), slowed.flags());
-    assert_eq!(rt; plain.pc(), slowed.pc());
-    // but for their origins the cells are the same
-    for address in 0..12u32 {
-        match (bare.look(address), stack.look(address)) {
-            (Cell::Open(a), Cell::Open(b)) => assert_eq!(rt; a, b),
-            (Cell::Absent(_), Cell::Absent(_)) => {}
-            _ => return Err(Fail::new("a cell differs")),
-        }
-    }
+    same_state(&rt, &plain, &slowed);
+    same_cells(&rt, &bare, &stack);
     Ok(())
 }

@@ -1,5 +1,5 @@
 // Every opcode once, and every branch mask at every setting of the flags, on a word card.
-use super::common::run;
+use super::common::{equal, run};
 use card::{Cells, WordCard};
 use isa::Flags;
 use machine::{Machine, Outcome, marked_words};
@@ -58,14 +58,14 @@ fn each_opcode(rt: HostRuntime) -> Result<(), Fail> {
         let mut card = WordCard::new(&mut words);
         let mut axis = Machine::power_up(1, &mut card)?;
         for _ in 0..3 {
-            assert_eq!(rt; axis.instruction(&mut card), Ok(Outcome::Done));
+            equal(&rt, axis.instruction(&mut card), Ok(Outcome::Done));
         }
         let (r5, pc, outcome) = expected(opcode);
-        assert_eq!(rt; axis.instruction(&mut card), Ok(outcome));
-        assert_eq!(rt; axis.register(5), r5);
-        assert_eq!(rt; axis.pc(), pc);
-        assert_eq!(rt; words[12], if opcode == 0x21 { 100 } else { 0x44 });
-        assert_eq!(rt; words[14], if opcode == 0x31 { 100 } else { 0x66 });
+        equal(&rt, axis.instruction(&mut card), Ok(outcome));
+        equal(&rt, axis.register(5), r5);
+        equal(&rt, axis.pc(), pc);
+        equal(&rt, words[12], if opcode == 0x21 { 100 } else { 0x44 });
+        equal(&rt, words[14], if opcode == 0x31 { 100 } else { 0x66 });
     }
     Ok(())
 }
@@ -91,10 +91,10 @@ fn each_mask_at_each_setting(rt: HostRuntime) -> Result<(), Fail> {
             let branch = u32::from_be_bytes([0x50, mask, 0, 9]);
             let mut words = [0x3001_0004, arithmetic, logic, branch, 0x8000_0000];
             let axis = run(&rt, &mut WordCard::new(&mut words), 4)?;
-            assert_eq!(rt; axis.flags(), Flags { v, n, z });
+            equal(&rt, axis.flags(), Flags { v, n, z });
             let some = (v && mask & 4 != 0) || (n && mask & 2 != 0) || (z && mask & 1 != 0);
             let taken = some == (mask & 8 != 0);
-            assert_eq!(rt; axis.pc(), if taken { 13 } else { 4 });
+            equal(&rt, axis.pc(), if taken { 13 } else { 4 });
         }
     }
     Ok(())
@@ -132,8 +132,8 @@ fn marked_arithmetic(rt: HostRuntime) -> Result<(), Fail> {
     for (marked, (a, b), register, word, flags) in rows {
         let mut words = [0x3002_0003, 0x3003_0004, marked, a, b];
         let axis = run(&rt, &mut WordCard::new(&mut words), 3)?;
-        assert_eq!(rt; axis.register(register), word);
-        assert_eq!(rt; axis.flags(), flags);
+        equal(&rt, axis.register(register), word);
+        equal(&rt, axis.flags(), flags);
     }
     Ok(())
 }
