@@ -8,7 +8,6 @@ use Rattle.card.specs.Meaning.{Meaning, waiting, finished, idle}
 use Rattle.machine.specs.Axes.{axis_number}
 use Rattle.machine.specs.declared.fault.Stage.{Stage}
 use Rattle.machine.specs.declared.machine.Outcome.TheVariants.{Halted}
-use Rattle.machine.specs.declared.fault.Fault.{Fault as Record}
 use Rattle.clocked.specs.declared.key.Key.{Key}
 use Rattle.clocked.specs.declared.key.NotTaken.{NotTaken}
 use Rattle.clocked.specs.declared.tick.Tick.{Tick}
@@ -19,10 +18,10 @@ use Rattle.clocked.specs.Calls.{Did, Ends, Polls, PollsFrom, ClockedUnless, Rese
 use Rattle.clocked.specs.Changes.{written_back, halting, restarting, locking, setting}
 use Rattle.clocked.specs.Control.{named}
 use Rattle.clocked.specs.Promise.{Answered}
-use Rattle.clocked.specs.Refusals.{when_halted, when_transfer, clock_refusal, reset_refusal, draw_refusal, key_refusal}
+use Rattle.clocked.specs.Refusals.{when_transfer, clock_refusal, reset_refusal, draw_refusal, key_refusal}
 use Rattle.clocked.specs.Runs.{Config, Call, call_of, to_clock, to_reset, to_draw, to_set, to_give_back, clocked, reset, drawn, set, given, Made, MadeBy, Event}
 use Rattle.clocked.specs.Table.{Move, Row, moves, begins, polls, row_of}
-use Rattle.clocked.proofs.Calling.{no_lock}
+use Rattle.clocked.proofs.Calling.{no_lock, no_halt}
 use Rattle.clocked.proofs.Steps.{some_none}
 
 -- An answer, and what is there afterwards.
@@ -52,10 +51,6 @@ module _ (p : Processor) (c : Meaning) where
   by_row (begins b n) e = record { answer = On; processor = n; card = waiting b 0 c; did = (refl, refl, (refl, omega arith)) }
   by_row (polls take s a) e = from take s a c.transfer e
 
-no_halt_rest : (f : Option Record) (x : Option Refusal) → when_halted f x ≡ None → x ≡ None
-no_halt_rest None x e = e
-no_halt_rest (Some f) x e = elim (some_none _ e) [ ]
-
 abbrev config : Processor → Meaning → Config
 config p c = record { processor = p; card = c }
 
@@ -69,7 +64,7 @@ module _ (p : Processor) (c : Meaning) where
   clock_answers (Some e) is made = gives (clocked (Err e)) p c (made (Err e) p c (refl, refl, refl))
   clock_answers None is made =
       let free = no_lock p.locked _ is in
-      let free = no_halt_rest p.fault _ free.1 in
+      let free = (no_halt p.fault _ free.1).1 in
       let r = by_row p c (row_of p.control p) free in
       let t : Tick = record { state = named p.control; answer = r.answer } in
       gives (clocked (Ok t)) r.processor r.card (made (Ok t) r.processor r.card (refl, r.did))

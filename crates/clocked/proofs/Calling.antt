@@ -76,8 +76,8 @@ pub no_lock : (l : Bool) (x : Option Refusal) → when_locked l x ≡ None → (
 no_lock false x e = (refl, e)
 no_lock true x e = elim (some_none _ e) [ ]
 
-no_halt : (f : Option Record) (x : Option Refusal) → when_halted f x ≡ None → f ≡ None
-no_halt None x e = refl
+pub no_halt : (f : Option Record) (x : Option Refusal) → when_halted f x ≡ None → (f ≡ None) × (x ≡ None)
+no_halt None x e = (refl, e)
 no_halt (Some f) x e = elim (some_none _ e) [ ]
 
 holds : (b : Bool) (r : Refusal) → cond b None (Some r) ≡ None → b ≡ true
@@ -141,7 +141,7 @@ module _ (A : State) (n w : ℕ) (p : Processor) (c : Meaning) (inv : Inv A n w 
   accepted (Err e) q d none h = elim h [ ]
   accepted (Ok t) q d none h =
       let free = no_lock p.locked _ none in
-      let unhalted = no_halt p.fault _ free.1 in
+      let unhalted = (no_halt p.fault _ free.1).0 in
       let g = by_state A n w p c t.answer q d unhalted free.0 p.control refl inv h.1 in
       record {
         inv = g.inv;
