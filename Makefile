@@ -2,24 +2,24 @@
 # make test   the C panel's test, the bench's wrong lines and large images, the key's wrong uses, then the proofs, programs and
 #             tests (rt ci)
 # make speed  instructions and clocks per second of the bench and of plain C
-.PHONY: run test panel-test lines-test images-test key-test speed
+.PHONY: run test panel-test files-test stdin-test key-test speed
 
 run: target/bin/bench
 	target/bin/bench examples/count.scenario examples/halt.scenario examples/clock.scenario
 
 # the tests before rt ci two at a time, what each prints kept together
 test:
-	$(MAKE) --no-print-directory --jobs=2 --output-sync=target panel-test lines-test images-test key-test
+	$(MAKE) --no-print-directory --jobs=2 --output-sync=target panel-test files-test stdin-test key-test
 	rt ci
 
 panel-test: target/staticlib/libfault_line.a
 	panel/test.sh
 
-lines-test:
-	tests/lines.sh
+files-test:
+	tests/files.sh
 
-images-test:
-	tests/images.sh
+stdin-test:
+	tests/stdin.sh
 
 key-test:
 	tests/key.sh

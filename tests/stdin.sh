@@ -1,11 +1,16 @@
 #!/usr/bin/env bash
-# Large images through the bench itself: what it says of each, and every cell of the largest card afterwards.
+# Standard input of the bench: wrong lines, and loads of large images with every cell of the largest card afterwards.
 # It is run by rt try, which builds it in seconds and stops at any error of the run; rt ci proves the same files.
 set -euo pipefail
 cd "$(dirname "$0")/.."
-out=$PWD/target/images
+tests=$PWD/tests out=$PWD/target/stdin
 rm -rf "$out"
-mkdir -p "$out"
+mkdir -p "$out/cases"
+
+# wrong lines; a last line without its end, which is carried out; nothing, which is right
+cp "$tests/wrong.scenario" "$out/cases/wrong"
+printf 'card word 1\nlook 0' >"$out/cases/unended"
+: >"$out/cases/empty"
 
 # so many bytes of 1
 ones() { head -c "$1" /dev/zero | tr '\0' '\1'; }
@@ -21,7 +26,6 @@ ones() { head -c "$1" /dev/zero | tr '\0' '\1'; }
 
 # The half of the cells from FROM on, after the loads that are refused, and after the one that is placed whole: a run may print
 # less than a dump of all cells.
-mkdir -p "$out/cases"
 for from in 0 32768; do
     cat >"$out/cases/refused.$from" <<END
 card word 65536
@@ -46,18 +50,28 @@ cells() {
         '{ printf "%08x open %s\n", $1, $1 == 0 ? first : $1 == 65535 ? last : other }'
 }
 
-for from in 0 32768; do
-    printf '== refused.%s\ncard ok\nwords ok\nwords ok\n' "$from"
-    printf 'load refused %s\n' '44 at 00010000' 41 41 42
-    cells "$from" 00000005 00000000 00000006
-done >"$out/expected"
-for from in 0 32768; do
-    printf '== whole.%s\ncard ok\nload ok\n' "$from"
-    cells "$from" 12345678 01010101 0000002a
-done >>"$out/expected"
+# in the order of the cases' names
+{
+    printf '== empty\n'
+    for from in 0 32768; do
+        printf '== refused.%s\ncard ok\nwords ok\nwords ok\n' "$from"
+        printf 'load refused %s\n' '44 at 00010000' 41 41 42
+        cells "$from" 00000005 00000000 00000006
+    done
+    printf '== unended\ncard ok\nlook open 00000000\n'
+    for from in 0 32768; do
+        printf '== whole.%s\ncard ok\nload ok\n' "$from"
+        cells "$from" 12345678 01010101 0000002a
+    done
+    printf '== wrong\n'
+    cat "$tests/wrong.expected"
+} >"$out/expected"
 
 data=()
 for name in million short long count whole; do data+=(--data "$name.image=$out/$name.image"); done
 (cd crates/bench && rt try "${data[@]}" --cases "$out/cases") >"$out/printed" 2>"$out/ends" || { cat "$out/ends" >&2; exit 1; }
 cmp "$out/printed" "$out/expected"
-echo "large images: ok"
+for end in 'empty run=ended status=0' 'unended run=ended status=0' 'wrong run=ended status=1'; do
+    if ! grep -q "^case=$end " "$out/ends"; then echo "not so: $end" >&2; exit 1; fi
+done
+echo "standard input: ok"
