@@ -17,19 +17,19 @@ pub record Meaning : Type 0 where
 
 -- The same card without a transfer.
 abbrev pub idle : Meaning → Meaning
-idle m = record { map = m.map; transfer = None; patience = m.patience }
+idle m = record m { transfer = None }
 
 -- The same card with another map.
 abbrev pub mapped : Map → Meaning → Meaning
-mapped f m = record { map = f; transfer = m.transfer; patience = m.patience }
+mapped f m = record m { map = f }
 
 -- The same card with the request q in being and w waits left.
 abbrev pub waiting : Request → ℕ → Meaning → Meaning
-waiting q w m = record { map = m.map; transfer = Some (record { request = q; waits = w }); patience = m.patience }
+waiting q w m = record m { transfer = Some (record { request = q; waits = w }) }
 
 -- The card after a request was carried out: its effect on the map, and no transfer.
 abbrev pub finished : Request → Meaning → Meaning
-finished q m = record { map = leaves q m.map; transfer = None; patience = m.patience }
+finished q m = record m { map = leaves q m.map; transfer = None }
 
 abbrev pub Refuses : {X : Type 0} → Refusal → Result X Refusal → Meaning → Meaning → Type 0
 Refuses e r m n = (r ≡ Err e) × (n ≡ m)

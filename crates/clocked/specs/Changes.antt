@@ -1,4 +1,4 @@
--- The changes that a call makes to a processor. Each names all parts of the processor, those that stay too.
+-- The changes that a call makes to a processor. Each names the parts that change, and leaves all others.
 -- A reader must believe: each of these is what its comment says.
 use Rattle.std.specs.Prelude.{ℕ, Bool, Some, None}
 use Rattle.card.specs.declared.cell.AccessFault.{AccessFault}
@@ -12,69 +12,28 @@ use Rattle.clocked.specs.Processor.{registers_of}
 
 -- A pending result is stored.
 abbrev pub written_back : Processor → Processor
-written_back p =
-    record {
-      axis = p.axis;
-      registers = record { words = registers_of p };
-      pending = None;
-      flags = p.flags;
-      pc = p.pc;
-      start = p.start;
-      control = p.control;
-      fault = p.fault;
-      locked = p.locked;
-    }
-
--- The control state, PC, and the address that is noted for the instruction.
-abbrev pub placed : Control → ℕ → ℕ → Processor → Processor
-placed k pc start p =
-    record {
-      axis = p.axis;
-      registers = p.registers;
-      pending = p.pending;
-      flags = p.flags;
-      pc = pc;
-      start = start;
-      control = k;
-      fault = p.fault;
-      locked = p.locked;
-    }
+written_back p = record p { registers = record { words = registers_of p }; pending = None }
 
 -- To a control state; with PC at an address; with PC noted as the address of the instruction.
 abbrev pub going : Control → Processor → Processor
-going k p = placed k p.pc p.start p
+going k p = record p { control = k }
 
 abbrev pub going_at : Control → ℕ → Processor → Processor
-going_at k pc p = placed k pc p.start p
+going_at k pc p = record p { pc = pc; control = k }
 
 abbrev pub noting : Control → Processor → Processor
-noting k p = placed k p.pc p.pc p
+noting k p = record p { start = p.pc; control = k }
 
 -- A result is latched for the register r, with the flags, and the instruction is done.
 abbrev pub latching : ℕ → ℕ → Flags → Processor → Processor
 latching r w flags p =
-    record {
-      axis = p.axis;
-      registers = p.registers;
-      pending = Some (record { register = r; word = w });
-      flags = flags;
-      pc = p.pc;
-      start = p.start;
-      control = Fetch0;
-      fault = p.fault;
-      locked = p.locked;
-    }
+    record p { pending = Some (record { register = r; word = w }); flags = flags; control = Fetch0 }
 
 -- A fault halts the processor, with PC back at the instruction.
 abbrev pub halting : Stage → ℕ → AccessFault → Processor → Processor
 halting stage access why p =
-    record {
-      axis = p.axis;
-      registers = p.registers;
-      pending = p.pending;
-      flags = p.flags;
+    record p {
       pc = p.start;
-      start = p.start;
       control = Fetch0;
       fault = Some
           (record {
@@ -85,50 +44,16 @@ halting stage access why p =
             cause = why.cause;
             origin = why.origin;
           });
-      locked = p.locked;
     }
 
 -- PC is 0, a halt is over, and the processor is at the boundary.
 abbrev pub restarting : Processor → Processor
-restarting p =
-    record {
-      axis = p.axis;
-      registers = p.registers;
-      pending = p.pending;
-      flags = p.flags;
-      pc = 0;
-      start = p.start;
-      control = Fetch0;
-      fault = None;
-      locked = p.locked;
-    }
+restarting p = record p { pc = 0; control = Fetch0; fault = None }
 
 -- The key is out, or in.
 abbrev pub locking : Bool → Processor → Processor
-locking b p =
-    record {
-      axis = p.axis;
-      registers = p.registers;
-      pending = p.pending;
-      flags = p.flags;
-      pc = p.pc;
-      start = p.start;
-      control = p.control;
-      fault = p.fault;
-      locked = b;
-    }
+locking b p = record p { locked = b }
 
 -- A register is set.
 abbrev pub setting : ℕ → ℕ → Processor → Processor
-setting r w p =
-    record {
-      axis = p.axis;
-      registers = record { words = put p.registers.words r w };
-      pending = p.pending;
-      flags = p.flags;
-      pc = p.pc;
-      start = p.start;
-      control = p.control;
-      fault = p.fault;
-      locked = p.locked;
-    }
+setting r w p = record p { registers = record { words = put p.registers.words r w } }

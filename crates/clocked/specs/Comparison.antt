@@ -23,15 +23,7 @@ use Rattle.clocked.specs.Runs.{Event, clocked, reset, drawn, set, given, Entry}
 
 -- The state with a word in a register.
 abbrev pub with_register : ℕ → ℕ → State → State
-with_register r w s =
-    record {
-      axis = s.axis;
-      registers = put s.registers r w;
-      pc = s.pc;
-      flags = s.flags;
-      map = s.map;
-      fault = s.fault;
-    }
+with_register r w s = record s { registers = put s.registers r w }
 
 abbrev pub compared_by : Answer → State → State
 compared_by On s = s

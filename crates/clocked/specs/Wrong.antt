@@ -37,8 +37,7 @@ with c p = record { processor = p; card = c.card }
 -- A processor with the registers, PC, flags and fault of a state, in fetch_1.
 abbrev pub holding : State → Processor → Processor
 holding s p =
-    record {
-      axis = p.axis;
+    record p {
       registers = record { words = s.registers };
       pending = None;
       flags = s.flags;
@@ -46,7 +45,6 @@ holding s p =
       start = p.pc;
       control = control.Fetch1;
       fault = s.fault;
-      locked = p.locked;
     }
 
 -- The configuration with the state of an axis and its memory, in fetch_1.

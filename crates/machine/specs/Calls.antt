@@ -45,8 +45,7 @@ outcome_of (Err f) = Halted
 
 abbrev pub recorded : Result Outcome Record → Machine → Machine
 recorded (Ok o) m = m
-recorded (Err f) m =
-    record { axis = m.axis; registers = m.registers; pc = m.pc; flags = m.flags; fault = Some f }
+recorded (Err f) m = record m { fault = Some f }
 
 -- A part of an instruction, as a step from the machine m on the card that c lends; d is the same loan afterwards.
 pub record Executes {X : Type 0} (meaning : X → Meaning) (f : State → Step) (m : Machine) (c : MutBor X)

@@ -39,15 +39,7 @@ powered_up axis f =
 
 -- The state after a reset.
 abbrev pub restarted : State → State
-restarted s =
-    record {
-      axis = s.axis;
-      registers = s.registers;
-      pc = 0;
-      flags = s.flags;
-      map = s.map;
-      fault = None;
-    }
+restarted s = record s { pc = 0; fault = None }
 
 -- The sum of two words as an address: modulo 2 ^ 32.
 abbrev pub plus : ℕ → ℕ → ℕ
@@ -56,10 +48,8 @@ plus a b = (a + b) % 2 ^ 32
 -- A machine that latched an arithmetic or logical answer. Used by private functions only.
 abbrev pub latched : Machine → ℕ → Answer → Machine
 latched m r a =
-    record {
-      axis = m.axis;
+    record m {
       registers = record { words = put m.registers.words r a.0 };
       pc = plus m.pc 1;
       flags = record { v = a.1; n = a.2; z = a.3 };
-      fault = m.fault;
     }

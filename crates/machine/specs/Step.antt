@@ -29,27 +29,11 @@ Step = Outcome × State
 
 -- The state with PC at this address and all else as it was.
 abbrev pub jump : State → ℕ → State
-jump s a =
-    record {
-      axis = s.axis;
-      registers = s.registers;
-      pc = a;
-      flags = s.flags;
-      map = s.map;
-      fault = s.fault;
-    }
+jump s a = record s { pc = a }
 
 -- A fault changes nothing but the fault itself: PC stays at the instruction.
 abbrev pub failed : State → Record → State
-failed s f =
-    record {
-      axis = s.axis;
-      registers = s.registers;
-      pc = s.pc;
-      flags = s.flags;
-      map = s.map;
-      fault = Some f;
-    }
+failed s f = record s { fault = Some f }
 
 abbrev pub halt : State → Stage → ℕ → AccessFault → Step
 halt s stage access f = (
@@ -77,13 +61,10 @@ past Long pc = plus pc 2
 abbrev pub latch : Answer → Instruction → State → Step
 latch a i s = (
   Done,
-  record {
-    axis = s.axis;
+  record s {
     registers = put s.registers i.r3 a.0;
     pc = past Quick s.pc;
     flags = record { v = a.1; n = a.2; z = a.3 };
-    map = s.map;
-    fault = s.fault;
   },
 )
 
@@ -99,17 +80,7 @@ displaced (Err f) s go = halt s stage.Displacement (plus s.pc 1) f
 
 -- A load ends with the word at its address in r3.
 abbrev pub loaded : End → ℕ → Form → Instruction → State → Step
-loaded (Ok w) a f i s = (
-  Done,
-  record {
-    axis = s.axis;
-    registers = put s.registers i.r3 w;
-    pc = past f s.pc;
-    flags = s.flags;
-    map = s.map;
-    fault = s.fault;
-  },
-)
+loaded (Ok w) a f i s = (Done, record s { registers = put s.registers i.r3 w; pc = past f s.pc })
 loaded (Err e) a f i s = halt s stage.Load a e
 
 -- What a store asks of the card: r3 at r1 plus the displacement.
@@ -117,17 +88,7 @@ abbrev pub store_of : Instruction → State → ℕ → Request
 store_of i s d = record { direction = Write (register s i.r3); address = plus (register s i.r1) d }
 
 abbrev pub stored : End → Request → Form → State → Step
-stored (Ok w) q f s = (
-  Done,
-  record {
-    axis = s.axis;
-    registers = s.registers;
-    pc = past f s.pc;
-    flags = s.flags;
-    map = leaves q s.map;
-    fault = s.fault;
-  },
-)
+stored (Ok w) q f s = (Done, record s { pc = past f s.pc; map = leaves q s.map })
 stored (Err e) q f s = halt s stage.Store q.address e
 
 -- A branch that is not taken reads no displacement.
