@@ -1,9 +1,8 @@
 -- The meaning of the two bottom cards, which lie over lent words.
 -- A reader must believe: address n has a cell if word n is there and n is below 65,536, and is absent otherwise, with
 -- the card itself as origin. The word card's cells are open, the boot card's fixed. No transfer has a wait.
-use Rattle.std.specs.Prelude.{◌≡◌, ℕ, Bool, cond, ◌&&◌, List, length, Some, None, Option, nat_lt, slice_index, slice_set}
-use Rattle.std.specs.Borrow.{MutBor}
-use Rattle.std.specs.Option as options
+use Rattle.std.specs.Prelude.{◌≡◌, ℕ, Bool, cond, ◌&&◌, List, length, drop, Some, None, Option, nat_lt, slice_index, slice_set}
+use Rattle.std.specs.Borrow.{GName, MutBor}
 use Rattle.card.specs.declared.cell.Cell.TheVariants.{Absent, Fixed, Open}
 use Rattle.card.specs.declared.cell.Origin.{Origin}
 use Rattle.card.specs.declared.transfer.Direction.{Direction}
@@ -12,6 +11,7 @@ use Rattle.card.specs.declared.transfer.Request.{Request}
 use Rattle.card.specs.declared.transfer.Transfer.{Transfer}
 use Rattle.card.specs.Ends.{Map}
 use Rattle.card.specs.Meaning.{Meaning}
+use Rattle.card.specs.Ports.{ended}
 
 -- The origin of a refusal by the card itself.
 abbrev pub here : ℕ → Origin
@@ -34,12 +34,9 @@ open_cells ws a = cond (has ws a) (Open (slice_index ws a)) (Absent (here a))
 abbrev pub fixed_cells : List ℕ → Map
 fixed_cells ws a = cond (has ws a) (Fixed (slice_index ws a) (here a)) (Absent (here a))
 
--- A request in being has no waits left.
-abbrev pub unwaited : Request → Transfer
-unwaited q = record { request = q; waits = 0 }
-
-abbrev pub bottom : Map → Option Request → Meaning
-bottom f q = record { map = f; transfer = options.option_map unwaited q; patience = 0 }
+-- A card over these cells, with a transfer in being or none.
+abbrev pub bottom : Map → Option Transfer → Meaning
+bottom f t = record { map = f; transfer = t; patience = 0 }
 
 -- The words after w was stored at the address a, where they have one for it.
 abbrev pub written : List ℕ → ℕ → ℕ → List ℕ
@@ -54,11 +51,28 @@ pub record Keeps (before after : MutBor (List ℕ)) (words : List ℕ) : Type 0 
 abbrev pub Written : MutBor (List ℕ) → ℕ → ℕ → MutBor (List ℕ) → Type 0
 Written before a w after = Keeps before after (written before.now a w)
 
--- A memory after the request in being, if any, has ended, by what storing a word leaves of it.
+-- A memory after a poll that ended this request, if any, by what storing a word leaves of it.
 abbrev pub AfterRequest : {X : Type 0} → (X → ℕ → ℕ → X → Type 0) → Direction → ℕ → X → X → Type 0
 AfterRequest Rewritten Read a before after = after ≡ before
 AfterRequest Rewritten (Write w) a before after = Rewritten before a w after
 
-abbrev pub After : {X : Type 0} → (X → ℕ → ℕ → X → Type 0) → Option Request → X → X → Type 0
+abbrev pub AfterEnd : {X : Type 0} → (X → ℕ → ℕ → X → Type 0) → Option Request → X → X → Type 0
+AfterEnd Rewritten None before after = after ≡ before
+AfterEnd Rewritten (Some q) before after = AfterRequest Rewritten q.direction q.address before after
+
+-- A memory after a poll of the transfer in being, if any.
+abbrev pub After : {X : Type 0} → (X → ℕ → ℕ → X → Type 0) → Option Transfer → X → X → Type 0
 After Rewritten None before after = after ≡ before
-After Rewritten (Some q) before after = AfterRequest Rewritten q.direction q.address before after
+After Rewritten (Some t) before after = AfterEnd Rewritten (ended t.request t.waits) before after
+
+-- The words that have no address, whatever their number. Not unfolded by the search for proofs, which would count to 65,536.
+unfoldable pub beyond : List ℕ → List ℕ
+beyond ws = drop 65536 ws
+
+-- What no call of a card changes of words that are lent for writing: the loan, and the words that have no address.
+pub record Loan : Type 0 where
+  pub lender : GName
+  pub rest : List ℕ
+
+abbrev pub loan_of : MutBor (List ℕ) → Loan
+loan_of m = record { lender = m.ghost_name; rest = beyond m.now }

@@ -2,3 +2,4 @@ pub mod Bottom
 pub mod Causes
 pub mod Ends
 pub mod Meaning
+pub mod Ports

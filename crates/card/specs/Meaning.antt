@@ -43,25 +43,13 @@ PlacedAt (Open v) m a w r n = (r ≡ Ok tt) × (n ≡ mapped (stored m.map a w) 
 abbrev pub Placed : Meaning → ℕ → ℕ → Result (Unit {0}) Refusal → Meaning → Type 0
 Placed m a w r n = PlacedAt (m.map a) m a w r n
 
--- Begin: the waits are the card's choice, up to its patience.
-abbrev pub BegunWith : Result ℕ Refusal → Meaning → Request → Meaning → Type 0
-BegunWith (Ok w) m q n = (n ≡ waiting q w m) × (w ≤ m.patience)
-BegunWith (Err e) m q n = ⊥
+-- Begin: w are the waits that the card chooses, within its patience.
+abbrev pub BegunFrom : Option Transfer → ℕ → Meaning → Request → Result ℕ Refusal → Meaning → Type 0
+BegunFrom None w m q r n = (r ≡ Ok w) × (n ≡ waiting q w m) × (w ≤ m.patience)
+BegunFrom (Some t) w m q r n = Refuses refused.Transfer r m n
 
-abbrev pub BegunFrom : Option Transfer → Meaning → Request → Result ℕ Refusal → Meaning → Type 0
-BegunFrom None m q r n = BegunWith r m q n
-BegunFrom (Some t) m q r n = Refuses refused.Transfer r m n
-
-abbrev pub Begun : Meaning → Request → Result ℕ Refusal → Meaning → Type 0
-Begun m q r n = BegunFrom m.transfer m q r n
-
--- A transfer with one wait less, while it has one.
-abbrev pub one_less : Request → ℕ → Option Transfer
-one_less q zero = None
-one_less q (suc w) = Some (record { request = q; waits = w })
-
-abbrev pub after_wait : Transfer → Option Transfer
-after_wait t = one_less t.request t.waits
+abbrev pub Begun : ℕ → Meaning → Request → Result ℕ Refusal → Meaning → Type 0
+Begun w m q r n = BegunFrom m.transfer w m q r n
 
 -- Poll: one wait less and no end while there are waits left, else the end of the transfer.
 abbrev pub AnsweredAt : ℕ → Request → Meaning → Result (Option End) Refusal → Meaning → Type 0

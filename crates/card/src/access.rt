@@ -11,6 +11,7 @@ pub fn finish<C: Cells>(cells: &mut C, request: Request) -> End
     ensures answer { result ≡ end_of request.direction ((C.Cells.meaning cells.old).map request.address) }
     ensures after { C.Cells.meaning cells.new
         ≡ mapped (leaves request (C.Cells.meaning cells.old).map) (C.Cells.meaning cells.old) }
+    ensures frame { C.Cells.frame cells.new ≡ C.Cells.frame cells.old }
 {
     let end = request.direction.end(cells.look(request.address));
     if let Direction::Write(word) = request.direction {

@@ -1,15 +1,16 @@
 // Cards over lent words, whose transfers never wait. What the words are lent for makes the difference: words lent for writing
 // are open cells, words lent for reading are fixed ones.
 // Beside the interface's own clause, each call says what the memory is then: so the lent words hold what was stored in them.
-ghost use Rattle.std.specs.Prelude.{◌≡◌, ℕ, None};
+ghost use Rattle.std.specs.Prelude.{◌≡◌, ℕ, List, None};
 ghost use Rattle.std.proofs.Common.{zero-le};
 ghost use Rattle.card.specs.Ends.{Map};
 ghost use Rattle.card.specs.Meaning.{Placed, Begun, Answered, idle};
-ghost use Rattle.card.specs.Bottom.{addressed, word_of, open_cells, fixed_cells, bottom, After, Keeps, Written};
+ghost use Rattle.card.specs.Bottom.{addressed, word_of, open_cells, fixed_cells, bottom, After, Keeps, Written, Loan, loan_of};
 
 use super::card::{Card, Cells};
 use super::cell::{Cell, Origin};
-use super::transfer::{Direction, End, Request};
+use super::port::Port;
+use super::transfer::{Direction, End, Request, Transfer};
 use refusal::Refusal;
 
 // Whether a card over so many words has one at the address.
@@ -34,6 +35,11 @@ pub trait Memory {
     // What is left of a memory after a word was stored at an address.
     ghost Rewritten: { Self → ℕ → ℕ → Self → Type 0 };
 
+    // What no store changes, beside the cells.
+    ghost Frame: { Type 0 };
+
+    ghost frame: { Self → Frame };
+
     fn cell(&self, address: u32) -> Cell
         ensures { result ≡ cells self.now address };
 
@@ -41,13 +47,18 @@ pub trait Memory {
     fn store(&mut self, address: u32, word: u32) -> Result<(), Refusal>
         ensures cells { Placed (bottom (cells self.old) None) address word
             result (bottom (cells self.new) None) }
-        ensures rewritten { Rewritten self.old address word self.new };
+        ensures rewritten { Rewritten self.old address word self.new }
+        ensures frame { frame self.new ≡ frame self.old };
 }
 
 impl<'a> Memory for &'a mut [u32] {
     ghost cells = { λ m. open_cells m.now };
 
     ghost Rewritten = { Written };
+
+    ghost Frame = { Loan };
+
+    ghost frame = { loan_of };
 
     fn cell(&self, address: u32) -> Cell {
         match word_at(self, address) {
@@ -56,6 +67,7 @@ impl<'a> Memory for &'a mut [u32] {
         }
     }
 
+    #[tactic(auto, using(crate::proofs::Loans::beyond_kept))]
     fn store(&mut self, address: u32, word: u32) -> Result<(), Refusal> {
         if !has_word(self.len(), address) {
             return Err(Refusal::NotOpen);
@@ -69,6 +81,10 @@ impl<'a> Memory for &'a [u32] {
     ghost cells = { λ m. fixed_cells m.now };
 
     ghost Rewritten = { λ before address word after. after ≡ before };
+
+    ghost Frame = { List ℕ };
+
+    ghost frame = { λ m. m.now };
 
     fn cell(&self, address: u32) -> Cell {
         let origin = Origin { address, layer: 0 };
@@ -86,7 +102,7 @@ impl<'a> Memory for &'a [u32] {
 #[derive(Drop)]
 pub struct BottomCard<M> {
     memory: M,
-    request: Option<Request>,
+    port: Port,
 }
 
 // Open cells over words that are lent for writing.
@@ -98,11 +114,11 @@ pub type BootCard<'a> = BottomCard<&'a [u32]>;
 impl<M> BottomCard<M> {
     fn over(memory: M) -> BottomCard<M>
         ensures memory { result.memory ≡ memory }
-        ensures idle { result.request ≡ None }
+        ensures idle { result.port.transfer ≡ None }
     {
         BottomCard {
             memory,
-            request: None,
+            port: Port::idle(),
         }
     }
 }
@@ -113,7 +129,7 @@ impl<'a> BottomCard<&'a mut [u32]> {
     // A card over the words, without a transfer. Words past the first 65,536 have no address.
     pub fn new(words: &'a mut [u32]) -> WordCard<'a>
         ensures words { Keeps words.entry result.memory words.old }
-        ensures idle { result.request ≡ None }
+        ensures idle { result.port.transfer ≡ None }
     {
         WordCard::over(words)
     }
@@ -123,16 +139,20 @@ impl<'a> BottomCard<&'a [u32]> {
     // A card over the words, without a transfer. Words past the first 65,536 have no address.
     pub fn new(words: &'a [u32]) -> BootCard<'a>
         ensures words { result.memory.now ≡ words.now }
-        ensures idle { result.request ≡ None }
+        ensures idle { result.port.transfer ≡ None }
     {
         BootCard::over(words)
     }
 }
 
 impl<M: Memory> Cells for BottomCard<M> {
-    ghost meaning = { λ c. bottom (M.cells c.memory) c.request };
+    ghost meaning = { λ c. bottom (M.cells c.memory) c.port.transfer };
 
     ghost bounded = { λ _. zero-le };
+
+    ghost Frame = { M.Frame };
+
+    ghost frame = { λ c. M.frame c.memory };
 
     fn look(&self, address: u32) -> Cell {
         self.memory.cell(address)
@@ -143,35 +163,41 @@ impl<M: Memory> Cells for BottomCard<M> {
     }
 
     fn place(&mut self, address: u32, word: u32) -> Result<(), Refusal>
-        ensures cells { Placed (bottom (M.cells self.old.memory) self.old.request) address word
-            result (bottom (M.cells self.new.memory) self.new.request) }
+        ensures placed { Placed (bottom (M.cells self.old.memory) self.old.port.transfer) address word
+            result (bottom (M.cells self.new.memory) self.new.port.transfer) }
+        ensures frame { M.frame self.new.memory ≡ M.frame self.old.memory }
         ensures memory { M.Rewritten self.old.memory address word self.new.memory }
     {
         self.memory.store(address, word)
     }
 }
 
-// Begin and cancel are nearly a layer's. They are this card's own since it keeps a request and no waits, and since each says besides
-// what the memory is afterwards.
+// Begin, poll and cancel are its port's. Each says besides what the memory is afterwards.
 impl<M: Memory> Card for BottomCard<M> {
+    ghost choice = { λ _ _. 0 };
+
+    fn transfer(&self) -> Option<Transfer> {
+        self.port.transfer()
+    }
+
     fn begin(&mut self, request: Request) -> Result<u16, Refusal>
-        ensures begun { Begun (bottom (M.cells self.old.memory) self.old.request) request
-            result (bottom (M.cells self.new.memory) self.new.request) }
+        ensures begun { Begun 0 (bottom (M.cells self.old.memory) self.old.port.transfer) request
+            result (bottom (M.cells self.new.memory) self.new.port.transfer) }
+        ensures frame { M.frame self.new.memory ≡ M.frame self.old.memory }
         ensures memory { self.new.memory ≡ self.old.memory }
     {
-        if self.request.is_some() {
-            return Err(Refusal::Transfer);
-        }
-        self.request = Some(request);
-        Ok(0)
+        self.port.begin(request, 0)
     }
 
     fn poll(&mut self) -> Result<Option<End>, Refusal>
-        ensures answered { Answered (bottom (M.cells self.old.memory) self.old.request)
-            result (bottom (M.cells self.new.memory) self.new.request) }
-        ensures memory { After M.Rewritten self.old.request self.old.memory self.new.memory }
+        ensures answered { Answered (bottom (M.cells self.old.memory) self.old.port.transfer)
+            result (bottom (M.cells self.new.memory) self.new.port.transfer) }
+        ensures frame { M.frame self.new.memory ≡ M.frame self.old.memory }
+        ensures memory { After M.Rewritten self.old.port.transfer self.old.memory self.new.memory }
     {
-        let request = self.request.take().ok_or(Refusal::Transfer)?;
+        let Some(request) = self.port.poll()? else {
+            return Ok(None);
+        };
         // as `finish` does, which would say nothing of the memory
         let end = request.direction.end(self.memory.cell(request.address));
         if let Direction::Write(word) = request.direction {
@@ -182,10 +208,11 @@ impl<M: Memory> Card for BottomCard<M> {
     }
 
     fn cancel(&mut self)
-        ensures cancelled { bottom (M.cells self.new.memory) self.new.request
-            ≡ idle (bottom (M.cells self.old.memory) self.old.request) }
+        ensures cancelled { bottom (M.cells self.new.memory) self.new.port.transfer
+            ≡ idle (bottom (M.cells self.old.memory) self.old.port.transfer) }
+        ensures frame { M.frame self.new.memory ≡ M.frame self.old.memory }
         ensures memory { self.new.memory ≡ self.old.memory }
     {
-        self.request = None;
+        self.port.cancel();
     }
 }

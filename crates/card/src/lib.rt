@@ -5,10 +5,12 @@ pub mod access;
 pub mod bottom;
 pub mod card;
 pub mod cell;
+pub mod port;
 pub mod transfer;
 
 pub use access::finish;
 pub use bottom::{BootCard, BottomCard, Memory, WordCard};
 pub use card::{Card, Cells};
 pub use cell::{AccessFault, Cause, Cell, Origin};
+pub use port::Port;
 pub use transfer::{Direction, End, Request, Transfer};

@@ -1,7 +1,7 @@
 // One transfer between a machine and its card: what is asked, how long it takes, how it ends.
 ghost use Rattle.std.specs.Prelude.{◌≡◌};
 ghost use Rattle.card.specs.Ends.{end_of};
-ghost use Rattle.card.specs.Meaning.{after_wait};
+ghost use Rattle.card.specs.Ports.{after_wait};
 
 use super::cell::{AccessFault, Cause, Cell};
 

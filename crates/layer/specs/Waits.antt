@@ -1,8 +1,7 @@
 -- The waits of a layer's transfers.
--- A reader must believe: a transfer that the layer itself refuses begins nothing below and has no waits; any other has what the
--- layer adds, and between no and all of the patience below on top.
-use Rattle.std.specs.Prelude.{◌≡◌, ℕ, ◌+◌, ◌≤◌, Bool, true, false, Some, None, Ok, Err, Option, Result}
-use Rattle.refusal.specs.declared.Refusal.{Refusal}
+-- A reader must believe: a transfer that the layer itself refuses asks nothing of the card below and has no waits; any other has the
+-- waits that the card below chooses for it, and what the layer adds on top.
+use Rattle.std.specs.Prelude.{ℕ, ◌+◌, Bool, true, false, not, Some, None, Option, if◌then◌else◌}
 use Rattle.card.specs.declared.cell.Cell.{Cell}
 use Rattle.card.specs.declared.cell.Cell.TheVariants.{Absent, Fixed, Open}
 use Rattle.card.specs.declared.transfer.Direction.{Direction}
@@ -29,24 +28,18 @@ refuses_at (Some b) d g f = guarded_write d g (f b)
 abbrev pub refuses : Kind → Map → Request → Bool
 refuses k f q = refuses_at (address_under k q.address) q.direction (guards k q.address) f
 
-abbrev pub Waits : Bool → ℕ → ℕ → ℕ → Type 0
-Waits true more patience w = w ≡ 0
-Waits false more patience w = (more ≤ w) × (w ≤ patience + more)
+-- Whether a begin asks the card below: it has no transfer of its own in being, and does not refuse the request itself.
+abbrev pub asks_below : Option Transfer → Kind → Map → Request → Bool
+asks_below None k f q = not (refuses k f q)
+asks_below (Some t) k f q = false
 
--- The waits w that a layer over this card gives the request.
-abbrev pub Chosen : Kind → Meaning → Request → ℕ → Type 0
-Chosen k below q w = Waits (refuses k below.map q) (added k below.patience) below.patience w
+-- The waits of a transfer: none where the layer refuses it, else what the card below chooses for the address below, and what the
+-- layer adds.
+abbrev pub waits_at : Option ℕ → Bool → Meaning → ℕ → (Request → ℕ) → Request → ℕ
+waits_at None g below more choice q = 0
+waits_at (Some b) g below more choice q =
+    if guarded_write q.direction g (below.map b) then 0 else (choice (record q { address = b }) + more)
 
-abbrev pub ChosenAs : Result ℕ Refusal → Kind → Meaning → Request → Type 0
-ChosenAs (Ok w) k below q = Chosen k below q w
-ChosenAs (Err e) k below q = ⊥
-
--- Of a begin: chosen so, unless it is refused for a transfer in being.
-abbrev pub ChosenFrom : Option Transfer → Kind → Meaning → Request → Result ℕ Refusal → Type 0
-ChosenFrom None k below q r = ChosenAs r k below q
-ChosenFrom (Some t) k below q r = Unit {0}
-
--- The card below keeps its cells and its patience.
-pub record Kept (before after : Meaning) : Type 0 where
-  pub map : after.map ≡ before.map
-  pub patience : after.patience ≡ before.patience
+abbrev pub waits_of : Kind → Meaning → (Request → ℕ) → Request → ℕ
+waits_of k below choice q =
+    waits_at (address_under k q.address) (guards k q.address) below (added k below.patience) choice q

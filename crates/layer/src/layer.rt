@@ -1,21 +1,23 @@
-// A layer over any card. It keeps its transfer itself: begin asks the card below how long it would wait, and the end of the
-// transfer looks and places below. So the card below has no transfer between calls, and needs no invariant to say so.
-ghost use Rattle.std.specs.Prelude.{◌≡◌, None};
-ghost use Rattle.layer.specs.Kinds.{within};
+// A layer over any card. It keeps its transfer in a port of its own: begin asks the card below how long it would wait, and the end of
+// the transfer looks and places below. So between calls the card below has no transfer, which its type says.
+ghost use Rattle.std.specs.Prelude.{◌≡◌, ◌≤◌, ◌+◌, true, false, None};
+ghost use Rattle.layer.specs.declared.kind.Kind.{Kind};
+ghost use Rattle.layer.specs.Kinds.{within, added};
 ghost use Rattle.card.specs.Meaning.{Begun, idle};
-ghost use Rattle.layer.specs.Waits.{ChosenAs, ChosenFrom, Kept};
+ghost use Rattle.layer.specs.Waits.{waits_of, refuses, asks_below};
 ghost use Rattle.layer.specs.Laws.{Laws};
 ghost use Rattle.layer.specs.Shown.{layered, raised};
 
 use super::kind::Kind;
-use card::{Card, Cell, Cells, Direction, End, Origin, Request, Transfer, finish};
+use card::{Card, Cell, Cells, Direction, End, Origin, Port, Request, Transfer, finish};
 use refusal::Refusal;
 
 #[derive(Drop)]
-pub struct Layer<C> {
+pub struct Layer<C: Card> {
     kind: Kind,
     below: C,
-    transfer: Option<Transfer>,
+    port: Port,
+    ghost idle_below: { (C.Cells.meaning below).transfer ≡ None },
 }
 
 // An origin from below.
@@ -29,9 +31,13 @@ fn raise(origin: Origin) -> Origin
 }
 
 impl<C: Card> Cells for Layer<C> {
-    ghost meaning = { λ l. layered l.kind (C.Cells.meaning l.below) l.transfer };
+    ghost meaning = { λ l. layered l.kind (C.Cells.meaning l.below) l.port.transfer };
 
     ghost bounded = { λ l. within l.kind (C.Cells.meaning l.below).patience (C.Cells.bounded l.below) };
+
+    ghost Frame = { Kind × C.Cells.Frame };
+
+    ghost frame = { λ l. (l.kind, C.Cells.frame l.below) };
 
     fn look(&self, address: u32) -> Cell {
         let origin = Origin { address, layer: 0 };
@@ -59,37 +65,40 @@ impl<C: Card> Cells for Layer<C> {
     }
 }
 
-// Begin, poll and cancel are nearly those of any card that keeps a transfer. What such cards share is `after_wait` and `finish`; one
-// type for all would be longer than the few lines.
 impl<C: Card> Card for Layer<C> {
+    ghost choice = { λ l q. waits_of l.kind (C.Cells.meaning l.below) (C.choice l.below) q };
+
+    fn transfer(&self) -> Option<Transfer> {
+        self.port.transfer()
+    }
+
+    // A transfer that is refused here is not asked for below.
     fn begin(&mut self, request: Request) -> Result<u16, Refusal>
         ensures begun { Begun
-            (layered self.old.kind (C.Cells.meaning self.old.below) self.old.transfer)
-            request result
-            (layered self.new.kind (C.Cells.meaning self.new.below) self.new.transfer) }
+            (waits_of self.old.kind (C.Cells.meaning self.old.below) (C.choice self.old.below) request)
+            (layered self.old.kind (C.Cells.meaning self.old.below) self.old.port.transfer) request
+            result (layered self.new.kind (C.Cells.meaning self.new.below) self.new.port.transfer) }
         ensures kind { self.new.kind ≡ self.old.kind }
-        ensures waits { ChosenFrom self.old.transfer self.old.kind
-            (C.Cells.meaning self.old.below) request result }
+        ensures frame { C.Cells.frame self.new.below ≡ C.Cells.frame self.old.below }
+        ensures unasked { asks_below self.old.port.transfer self.old.kind (C.Cells.meaning self.old.below).map request ≡ false
+            → self.new.below ≡ self.old.below }
     {
-        if self.transfer.is_some() {
+        if self.port.transfer().is_some() {
             return Err(Refusal::Transfer);
         }
-        let waits = self.waits(request)?;
-        self.transfer = Some(Transfer { request, waits });
-        Ok(waits)
+        let waits = self.waits(request);
+        self.port.begin(request, waits)
     }
 
     fn poll(&mut self) -> Result<Option<End>, Refusal> {
-        let transfer = self.transfer.take().ok_or(Refusal::Transfer)?;
-        self.transfer = transfer.after_wait();
-        if self.transfer.is_some() {
+        let Some(request) = self.port.poll()? else {
             return Ok(None);
-        }
-        Ok(Some(finish(self, transfer.request)))
+        };
+        Ok(Some(finish(self, request)))
     }
 
     fn cancel(&mut self) {
-        self.transfer = None;
+        self.port.cancel();
     }
 }
 
@@ -100,40 +109,41 @@ impl<C: Card> Layer<C> {
         ensures laws { Laws }
         ensures kind { result.kind ≡ kind }
         ensures below { C.Cells.meaning result.below ≡ idle (C.Cells.meaning below) }
-        ensures made { layered result.kind (C.Cells.meaning result.below) result.transfer
+        ensures made { layered result.kind (C.Cells.meaning result.below) result.port.transfer
             ≡ layered kind (C.Cells.meaning below) None }
+        ensures frame { C.Cells.frame result.below ≡ C.Cells.frame below }
     {
         below.cancel();
         Layer {
             kind,
             below,
-            transfer: None,
+            port: Port::idle(),
         }
     }
 
     // How long the card below would wait, and what the layer adds; no waits where the layer itself refuses.
-    fn waits(&mut self, request: Request) -> Result<u16, Refusal>
-        ensures chosen { ChosenAs result self.old.kind (C.Cells.meaning self.old.below) request }
-        ensures same { self.new.kind ≡ self.old.kind }
-        ensures transfer { self.new.transfer ≡ self.old.transfer }
-        ensures kept { Kept (C.Cells.meaning self.old.below) (C.Cells.meaning self.new.below) }
+    fn waits(&mut self, request: Request) -> u16
+        ensures chosen { result ≡ waits_of self.old.kind (C.Cells.meaning self.old.below) (C.choice self.old.below) request }
+        ensures within { result ≤ (C.Cells.meaning self.old.below).patience + added self.old.kind (C.Cells.meaning self.old.below).patience }
+        ensures kind { self.new.kind ≡ self.old.kind }
+        ensures port { self.new.port ≡ self.old.port }
+        ensures below { C.Cells.meaning self.new.below ≡ C.Cells.meaning self.old.below }
+        ensures frame { C.Cells.frame self.new.below ≡ C.Cells.frame self.old.below }
+        ensures unasked { refuses self.old.kind (C.Cells.meaning self.old.below).map request ≡ true
+            → self.new.below ≡ self.old.below }
     {
-        let Some(below) = self.kind.address_below(request.address) else {
-            return Ok(0);
+        let Some(address) = self.kind.address_below(request.address) else {
+            return 0;
         };
         if self.kind.guards(request.address)
             && let Direction::Write(_) = request.direction
-            && let Cell::Open(_) = self.below.look(below)
+            && let Cell::Open(_) = self.below.look(address)
         {
-            return Ok(0);
+            return 0;
         }
         let added = self.kind.added(self.below.patience());
+        let waits = self.below.begin(Request { address, ..request }).unwrap();
         self.below.cancel();
-        let waits = self.below.begin(Request {
-            address: below,
-            ..request
-        })?;
-        self.below.cancel();
-        Ok(waits + added)
+        waits + added
     }
 }
