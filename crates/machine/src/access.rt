@@ -8,8 +8,9 @@ use refusal::Refusal;
 
 // Runs a transfer to its end, however long it waits; refused while another is in being.
 pub fn complete<C: Card>(card: &mut C, request: Request) -> Result<End, Refusal>
-    ensures { Completed (C.Cells.meaning card.old) request
+    ensures completed { Completed (C.Cells.meaning card.old) request
         result (C.Cells.meaning card.new) }
+    ensures frame { C.Cells.frame card.new ≡ C.Cells.frame card.old }
 {
     card.begin(request)?;
     loop {
@@ -28,13 +29,15 @@ pub(crate) struct IdleCard<'c, C: Card> {
 
 impl<'c, C: Card> IdleCard<'c, C> {
     fn access(&mut self, request: Request) -> End
-        ensures { Accesses C.Cells.meaning request self.old.card result self.new.card }
+        ensures ended { Accesses C.Cells.meaning request self.old.card result self.new.card }
+        ensures frame { C.Cells.frame self.new.card.now ≡ C.Cells.frame self.old.card.now }
     {
         complete(self.card, request).unwrap()
     }
 
     pub(crate) fn read(&mut self, address: u32) -> End
-        ensures { Reads C.Cells.meaning address self.old.card result self.new.card }
+        ensures ended { Reads C.Cells.meaning address self.old.card result self.new.card }
+        ensures frame { C.Cells.frame self.new.card.now ≡ C.Cells.frame self.old.card.now }
     {
         self.access(Request {
             direction: Direction::Read,
@@ -43,8 +46,9 @@ impl<'c, C: Card> IdleCard<'c, C> {
     }
 
     pub(crate) fn write(&mut self, address: u32, word: u32) -> End
-        ensures { Accesses C.Cells.meaning (record { direction = Write word; address = address })
+        ensures ended { Accesses C.Cells.meaning (record { direction = Write word; address = address })
             self.old.card result self.new.card }
+        ensures frame { C.Cells.frame self.new.card.now ≡ C.Cells.frame self.old.card.now }
     {
         self.access(Request {
             direction: Direction::Write(word),

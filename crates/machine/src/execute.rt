@@ -1,7 +1,7 @@
 // One instruction, by the words that it reads: itself, a displacement, the word at an address.
 // Its parts answer a fault as an error, and only the call as a whole records it: so up to there a fault has changed nothing.
 // They are methods of the machine over a card, a form and an instruction; a struct of these would lend the machine once more.
-ghost use Rattle.std.specs.Prelude.{◌≡◌};
+ghost use Rattle.std.specs.Prelude.{◌≡◌, OnSome};
 ghost use Rattle.card.specs.Ends.{End};
 ghost use Rattle.card.specs.declared.transfer.Direction.TheVariants.{Read};
 ghost use Rattle.isa.specs.declared.opcodes.Class.TheVariants.{Load, Store};
@@ -27,6 +27,8 @@ impl Machine {
         ensures stepped { Stepped
             self.old (C.Cells.meaning card.old)
             result self.new (C.Cells.meaning card.new) }
+        ensures frame { C.Cells.frame card.new ≡ C.Cells.frame card.old }
+        ensures untouched { OnSome self.old.fault (card.new ≡ card.old) }
     {
         if self.fault.is_some() {
             return Err(Refusal::Halted);
@@ -53,8 +55,9 @@ impl Machine {
         card: &mut IdleCard<'c, C>,
         word: End,
     ) -> Result<Outcome, Fault>
-        ensures { Executes C.Cells.meaning (fetched word)
+        ensures executes { Executes C.Cells.meaning (fetched word)
             self.old card.old.card result self.new card.new.card }
+        ensures frame { C.Cells.frame card.new.card.now ≡ C.Cells.frame card.old.card.now }
     {
         let instruction = Instruction::from(self.word_or_fault(Stage::Fetch, self.pc, word)?);
         let first = self.registers.get(instruction.r1);
@@ -119,6 +122,7 @@ impl Machine {
             (displacement form instruction (state_of self.now (C.Cells.meaning card.old.card.now).map)) }
         ensures same { C.Cells.meaning card.new.card.now ≡ C.Cells.meaning card.old.card.now }
         ensures lender { card.new.card.ghost_name ≡ card.old.card.ghost_name }
+        ensures frame { C.Cells.frame card.new.card.now ≡ C.Cells.frame card.old.card.now }
     {
         match form {
             Form::Quick => Ok(instruction.immediate()),
@@ -136,8 +140,9 @@ impl Machine {
         form: Form,
         instruction: Instruction,
     ) -> Result<Outcome, Fault>
-        ensures { Executes C.Cells.meaning (executed (Load form) instruction)
+        ensures executes { Executes C.Cells.meaning (executed (Load form) instruction)
             self.old card.old.card result self.new card.new.card }
+        ensures frame { C.Cells.frame card.new.card.now ≡ C.Cells.frame card.old.card.now }
     {
         let offset = self.displacement(card, form, instruction)?;
         let address = self.registers.get(instruction.r1).wrapping_add(offset);
@@ -154,8 +159,9 @@ impl Machine {
         form: Form,
         instruction: Instruction,
     ) -> Result<Outcome, Fault>
-        ensures { Executes C.Cells.meaning (executed (Store form) instruction)
+        ensures executes { Executes C.Cells.meaning (executed (Store form) instruction)
             self.old card.old.card result self.new card.new.card }
+        ensures frame { C.Cells.frame card.new.card.now ≡ C.Cells.frame card.old.card.now }
     {
         let offset = self.displacement(card, form, instruction)?;
         let address = self.registers.get(instruction.r1).wrapping_add(offset);
@@ -173,8 +179,9 @@ impl Machine {
         instruction: Instruction,
         base: u32,
     ) -> Result<Outcome, Fault>
-        ensures { Executes C.Cells.meaning (λ s. branched (taken_by instruction.mask s.flags) form instruction s (plus base))
+        ensures executes { Executes C.Cells.meaning (λ s. branched (taken_by instruction.mask s.flags) form instruction s (plus base))
             self.old card.old.card result self.new card.new.card }
+        ensures frame { C.Cells.frame card.new.card.now ≡ C.Cells.frame card.old.card.now }
     {
         self.pc = if instruction.mask.taken(self.flags) {
             base.wrapping_add(self.displacement(card, form, instruction)?)

@@ -1,5 +1,5 @@
 // The instruction machine: the state, power-up, reset, and the questions. One instruction is in the module `execute`.
-ghost use Rattle.std.specs.Prelude.{◌≡◌};
+ghost use Rattle.std.specs.Prelude.{◌≡◌, OnErr};
 ghost use Rattle.card.specs.Ends.{Map};
 ghost use Rattle.machine.specs.Calls.{PoweredUp};
 ghost use Rattle.machine.specs.Registers.{read};
@@ -34,8 +34,10 @@ pub struct Machine {
 impl Machine {
     // A machine with registers, flags and PC zero; it cancels the card's transfer. Refused unless the axis is 1, 2 or 3.
     pub fn power_up<C: Card>(axis: u32, card: &mut C) -> Result<Machine, Refusal>
-        ensures { PoweredUp axis (C.Cells.meaning card.old)
+        ensures powered { PoweredUp axis (C.Cells.meaning card.old)
             result (C.Cells.meaning card.new) }
+        ensures frame { C.Cells.frame card.new ≡ C.Cells.frame card.old }
+        ensures untouched { OnErr result (card.new ≡ card.old) }
     {
         let axis = Axis::try_from(axis)?;
         card.cancel();
