@@ -1,6 +1,6 @@
 -- What the private functions of a clock promise: the card's answer in a state that polls, and the row of a state.
 -- A reader must believe: nothing; no public contract cites this.
-use Rattle.std.specs.Prelude.{◌≡◌, Some, None, Ok, Err, Option, Result}
+use Rattle.std.specs.Prelude.{◌≡◌, Bool, true, false, Some, None, Ok, Err, Option, Result}
 use Rattle.refusal.specs.declared.Refusal.{Refusal}
 use Rattle.card.specs.Ends.{End}
 use Rattle.card.specs.Meaning.{Meaning, Answered}
@@ -17,6 +17,11 @@ abbrev pub PolledFor : Row → Meaning → Result (Option End) Refusal → Meani
 PolledFor (moves m) c r d = NotAsked c r d
 PolledFor (begins b q) c r d = NotAsked c r d
 PolledFor (polls take s a) c r d = Answered c r d
+
+abbrev pub is_poll : Row → Bool
+is_poll (moves m) = false
+is_poll (begins b q) = false
+is_poll (polls take s a) = true
 
 -- The row of the processor's state, or a refusal for the transfer.
 abbrev pub AdvancedAs : Result Answer Refusal → Processor → Meaning → Processor → Meaning → Type 0

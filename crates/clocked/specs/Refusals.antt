@@ -1,6 +1,6 @@
 -- When a call is refused, and by which refusal.
 -- A reader must believe: these conditions, and their order.
-use Rattle.std.specs.Prelude.{Bool, true, false, cond, ◌&&◌, Some, None, Option, ◌==◌}
+use Rattle.std.specs.Prelude.{Bool, true, false, cond, not, ◌&&◌, is_none, Some, None, Option, ◌==◌}
 use Rattle.refusal.specs.declared.Refusal.{Refusal}
 use Rattle.refusal.specs.declared.Refusal.TheVariants as refused
 use Rattle.card.specs.declared.transfer.Transfer.{Transfer}
@@ -11,7 +11,7 @@ use Rattle.clocked.specs.declared.control.Control.{Control}
 use Rattle.clocked.specs.declared.control.Control.TheVariants.{Fetch0, Fetch1, Fetch2, Decode, DispFetch0, DispFetch1, DispFetch2, Execute0, Execute1, Execute2}
 use Rattle.clocked.specs.declared.key.Key.{Key}
 use Rattle.clocked.specs.declared.processor.Processor.{Processor}
-use Rattle.clocked.specs.Table.{Row, moves, begins, polls, row_of}
+use Rattle.clocked.specs.Table.{Row, moves, begins, polls, asks, row_of}
 
 -- A refusal for the key that is out, and one for a halt, before the others.
 abbrev pub when_locked : Bool → Option Refusal → Option Refusal
@@ -32,6 +32,10 @@ when_transfer (polls take s a) (Some t) = None
 
 abbrev pub clock_refusal : Processor → Meaning → Option Refusal
 clock_refusal p c = when_locked p.locked (when_halted p.fault (when_transfer (row_of p.control p) c.transfer))
+
+-- Whether a clock asks something of the card: the key is in, there is no halt, and its row begins or polls.
+abbrev pub asks_card : Processor → Bool
+asks_card p = not p.locked && is_none p.fault && asks (row_of p.control p)
 
 abbrev pub reset_refusal : Processor → Option Refusal
 reset_refusal p = when_locked p.locked None

@@ -39,6 +39,12 @@ pub data Row : Type 0 where
   -- polls: what it does with the word, or the stage and the access of a fault
   polls : (ℕ → Move) → Stage → ℕ → Row
 
+-- Whether a row asks something of the card.
+abbrev pub asks : Row → Bool
+asks (moves m) = false
+asks (begins b q) = true
+asks (polls take s a) = true
+
 abbrev pub on_to : Control → Processor → Move
 on_to k p = (On, going k p)
 

@@ -10,5 +10,6 @@ mod tick;
 
 pub use control::ControlState;
 pub use key::{Key, NotTaken};
+pub use pending::Pending;
 pub use processor::Processor;
 pub use tick::{Answer, Tick};

@@ -1,6 +1,6 @@
 // The processor by clock: its parts, power-up, and the questions. One clock, the reset and the service key are in the
 // modules below.
-ghost use Rattle.std.specs.Prelude.{◌≡◌};
+ghost use Rattle.std.specs.Prelude.{◌≡◌, OnErr};
 ghost use Rattle.machine.specs.Axes.{axis_of};
 ghost use Rattle.machine.specs.Registers.{read};
 ghost use Rattle.clocked.specs.Calls.{PoweredUp};
@@ -44,6 +44,8 @@ impl Processor {
     pub fn power_up<C: Card>(axis: u32, card: &mut C) -> Result<Processor, Refusal>
         ensures powered { PoweredUp axis (C.Cells.meaning card.old)
             result (C.Cells.meaning card.new) }
+        ensures frame { C.Cells.frame card.new ≡ C.Cells.frame card.old }
+        ensures untouched { OnErr result (card.new ≡ card.old) }
         ensures promise { Promised (axis_of axis) (C.Cells.meaning card.old)
             result (C.Cells.meaning card.new) }
         ensures refuted { Refuted }
@@ -82,6 +84,13 @@ impl Processor {
                 .get_after_store(pending.register, pending.word, register),
             None => self.registers.get(register),
         }
+    }
+
+    // The result that waits for its register, or none.
+    pub fn pending(&self) -> Option<Pending>
+        ensures { result ≡ self.now.pending }
+    {
+        self.pending
     }
 
     pub fn flags(&self) -> Flags

@@ -1,16 +1,17 @@
 // One clock: a row of the clock table.
-ghost use Rattle.std.specs.Prelude.{◌≡◌};
+ghost use Rattle.std.specs.Prelude.{◌≡◌, false};
 ghost use Rattle.isa.specs.Branch.{taken_by};
 ghost use Rattle.isa.specs.Opcodes.{class_of};
 ghost use Rattle.machine.specs.declared.machine.Outcome.TheVariants.{Done, Halted};
 ghost use Rattle.machine.specs.State.{plus};
 ghost use Rattle.clocked.specs.declared.control.Control.TheVariants.{Fetch0, Fetch1};
 ghost use Rattle.clocked.specs.declared.tick.Answer.TheVariants.{On, Ended};
-ghost use Rattle.clocked.specs.Advance.{Advanced, PolledFor};
+ghost use Rattle.clocked.specs.Advance.{Advanced, PolledFor, is_poll};
 ghost use Rattle.clocked.specs.Calls.{Clocked};
 ghost use Rattle.clocked.specs.Control.{reads_at};
 ghost use Rattle.clocked.specs.Changes.{going, going_at, noting, written_back, halting};
-ghost use Rattle.clocked.specs.Table.{row_of, decodes, executes, latches, branches, completes};
+ghost use Rattle.clocked.specs.Refusals.{asks_card};
+ghost use Rattle.clocked.specs.Table.{row_of, asks, decodes, executes, latches, branches, completes};
 
 use super::Processor;
 use crate::access::Access;
@@ -27,8 +28,10 @@ impl Processor {
     // transfer in being where one begins, or none where one is polled.
     #[tactic(auto, using(crate::proofs::Refusing::refused_clock))]
     pub fn clock<C: Card>(&mut self, card: &mut C) -> Result<Tick, Refusal>
-        ensures { Clocked self.old (C.Cells.meaning card.old)
+        ensures clocked { Clocked self.old (C.Cells.meaning card.old)
             result self.new (C.Cells.meaning card.new) }
+        ensures frame { C.Cells.frame card.new ≡ C.Cells.frame card.old }
+        ensures untouched { asks_card self.old ≡ false → card.new ≡ card.old }
     {
         if self.locked {
             return Err(Refusal::KeyOut);
@@ -44,8 +47,10 @@ impl Processor {
     // Matches the control state and what the card answers where it is polled. Apart from the refusals above, since a goal that
     // has both takes the search for proofs to its limits. By reference, since otherwise each clock copies the whole state.
     fn advance<C: Card>(&mut self, card: &mut C) -> Result<Answer, Refusal>
-        ensures { Advanced self.old (C.Cells.meaning card.old)
+        ensures advanced { Advanced self.old (C.Cells.meaning card.old)
             result self.new (C.Cells.meaning card.new) }
+        ensures frame { C.Cells.frame card.new ≡ C.Cells.frame card.old }
+        ensures untouched { asks (row_of self.old.control self.old) ≡ false → card.new ≡ card.old }
     {
         let answer = match (&self.control, self.poll(card)?) {
             (&Control::Fetch0, _) => self.fetch(),
@@ -89,8 +94,10 @@ impl Processor {
 
     // The end of the transfer in a state that polls, if it ends now; the other states do not ask.
     fn poll<C: Card>(&self, card: &mut C) -> Result<Option<End>, Refusal>
-        ensures { PolledFor (row_of self.now.control self.now) (C.Cells.meaning card.old)
+        ensures polled { PolledFor (row_of self.now.control self.now) (C.Cells.meaning card.old)
             result (C.Cells.meaning card.new) }
+        ensures frame { C.Cells.frame card.new ≡ C.Cells.frame card.old }
+        ensures untouched { is_poll (row_of self.now.control self.now) ≡ false → card.new ≡ card.old }
     {
         match self.control {
             Control::Fetch2 | Control::DispFetch2(_) | Control::Execute2(_) => card.poll(),
