@@ -1,5 +1,5 @@
 // Placing an image on a card.
-ghost use Rattle.std.specs.Prelude.{◌≡◌, ◌+◌, ◌^◌, ◌≤◌};
+ghost use Rattle.std.specs.Prelude.{◌≡◌, OnErr, ◌+◌, ◌^◌, ◌≤◌};
 ghost use Rattle.card.specs.Meaning.{mapped};
 ghost use Rattle.image.specs.Check.{bytes_of};
 ghost use Rattle.image.specs.Directory.{count_of};
@@ -14,8 +14,10 @@ use card::{Cell, Cells};
 impl<'a> Image<'a> {
     // Puts every word at its address, or nothing at all if some address is not open.
     pub fn place<C: Cells>(&self, card: &mut C) -> Result<(), NotPlaced>
-        ensures { PlacedImage (bytes_of self.now) (C.Cells.meaning card.old)
+        ensures placed { PlacedImage (bytes_of self.now) (C.Cells.meaning card.old)
             result (C.Cells.meaning card.new) }
+        ensures frame { C.Cells.frame card.new ≡ C.Cells.frame card.old }
+        ensures untouched { OnErr result (card.new ≡ card.old) }
     {
         if let Some(address) = self.first_closed(card) {
             return Err(NotPlaced { address });
@@ -39,8 +41,9 @@ impl<'a> Image<'a> {
 
     fn lay<C: Cells>(&self, card: &mut C)
         requires { AllOpen (bytes_of self.now) (count_of (bytes_of self.now)) (C.Cells.meaning card.old).map }
-        ensures { Laid (bytes_of self.now) (count_of (bytes_of self.now))
+        ensures laid { Laid (bytes_of self.now) (count_of (bytes_of self.now))
             (C.Cells.meaning card.old) (C.Cells.meaning card.new) }
+        ensures frame { C.Cells.frame card.new ≡ C.Cells.frame card.old }
     {
         for n in 0..self.directory.count() {
             self.segment_at(n).lay(card);
@@ -63,9 +66,10 @@ impl<'a> Segment<'a> {
     fn lay<C: Cells>(&self, card: &mut C)
         requires fits { self.now.offset + words_in self.now.words.now ≤ 2 ^ 32 }
         requires open { OpenFrom (C.Cells.meaning card.old).map self.now.offset (self.now.offset + words_in self.now.words.now) }
-        ensures { C.Cells.meaning card.new ≡ mapped
+        ensures laid { C.Cells.meaning card.new ≡ mapped
             (laid self.now.offset self.now.words.now (words_in self.now.words.now) (C.Cells.meaning card.old).map)
             (C.Cells.meaning card.old) }
+        ensures frame { C.Cells.frame card.new ≡ C.Cells.frame card.old }
     {
         let (words, _) = self.words.as_chunks::<4>();
         for (k, word) in words.iter().enumerate() {

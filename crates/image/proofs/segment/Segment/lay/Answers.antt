@@ -16,4 +16,8 @@ loop-k-preserved g c =
     ∙ ap (λ chunks. number (get_or chunks k []) 0) c.as_chunks.ensures.front
     ∙ word_read part (words_in part) k [] within in
     let opened = c.requires.open _ (omega arith) (omega (arith, within)) in
-    laid_step c.args.self.now.offset part k c.from_be_bytes.result _ _ _ _ opened c.loop-k.invariant word c.place.ensures
+    record {
+      laid = laid_step c.args.self.now.offset part k c.from_be_bytes.result _ _ _ _ opened c.loop-k.invariant.laid word
+          c.place.ensures.placed;
+      frame = c.place.ensures.frame ∙ c.loop-k.invariant.frame;
+    }

@@ -5,5 +5,7 @@ use Rattle.image.proofs.segment.Segment.lay.Given as goal
 
 abbrev pub invariant-loop-k : goal.invariant-loop-k
 invariant-loop-k g l =
-    let before = g.C.Cells.meaning l.initial.card in
-    g.C.Cells.meaning l.card ≡ mapped (laid l.self.offset l.self.words.now l.k before.map) before
+    let before = g.C.Cells.meaning l.initial.card in record {
+      laid : g.C.Cells.meaning l.card ≡ mapped (laid l.self.offset l.self.words.now l.k before.map) before;
+      frame : g.C.Cells.frame l.card ≡ g.C.Cells.frame l.initial.card;
+    }
