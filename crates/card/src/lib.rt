@@ -5,6 +5,7 @@ pub mod access;
 pub mod bottom;
 pub mod card;
 pub mod cell;
+pub mod lent;
 pub mod port;
 pub mod transfer;
 

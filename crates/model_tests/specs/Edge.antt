@@ -1,6 +1,6 @@
 -- The meaning of the tests' own card, which has a cell at every address.
 -- A reader must believe: nothing; no promise of the library rests on it.
-use Rattle.std.specs.Prelude.{ℕ, ◌+◌, ◌-◌, ◌^◌, ◌≤◌, min, cond, ◌&&◌, List, Option, nat_le, nat_lt, slice_index}
+use Rattle.std.specs.Prelude.{ℕ, ◌+◌, ◌-◌, ◌%◌, ◌^◌, ◌≤◌, min, cond, ◌&&◌, List, Option, nat_le, nat_lt, slice_index}
 use Rattle.std.proofs.Common.{arith}
 use Rattle.card.specs.declared.cell.Cell.TheVariants.{Fixed, Open}
 use Rattle.card.specs.declared.transfer.Transfer.{Transfer}
@@ -19,3 +19,6 @@ edge_meaning first last layers more t =
 
 pub patient : (more : ℕ) → min more 4093 + 3 ≤ 4096
 patient more = omega arith
+
+abbrev pub edge_choice : ℕ → ℕ → ℕ
+edge_choice more a = min more 4093 + a % 4

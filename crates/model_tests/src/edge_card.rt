@@ -1,11 +1,10 @@
 // A card with a cell at every address: the eight first and the eight last addresses are open, all others hold a fixed
 // zero. Its transfers wait by their address, up to three times. It can stand for a card under layers of its own, whose transfers all
-// wait so many times more and whose origins have so many layers above them. Its begin, poll and cancel are nearly a layer's. What
-// these share stands in `after_wait` and `finish`; one type for both, over cells and waits, would be longer than the few lines.
-ghost use Rattle.std.specs.Prelude.{◌≡◌, min};
-ghost use Rattle.model_tests.specs.Edge.{edge_meaning, patient};
+// wait so many times more and whose origins have so many layers above them.
+ghost use Rattle.std.specs.Prelude.{◌≡◌, ℕ, min};
+ghost use Rattle.model_tests.specs.Edge.{edge_meaning, edge_choice, patient};
 
-use card::{Card, Cell, Cells, End, Origin, Request, Transfer, finish};
+use card::{Card, Cell, Cells, End, Origin, Port, Request, Transfer, finish};
 use refusal::Refusal;
 
 #[derive(Drop)]
@@ -15,7 +14,7 @@ pub struct EdgeCard {
     // taken as at most 4,093, so that the patience stays within its bound
     more: u16,
     layers: u8,
-    transfer: Option<Transfer>,
+    port: Port,
 }
 
 impl EdgeCard {
@@ -25,7 +24,7 @@ impl EdgeCard {
             last,
             more: 0,
             layers: 0,
-            transfer: None,
+            port: Port::idle(),
         }
     }
 
@@ -46,9 +45,13 @@ impl EdgeCard {
 }
 
 impl Cells for EdgeCard {
-    ghost meaning = { λ c. edge_meaning c.first c.last c.layers c.more c.transfer };
+    ghost meaning = { λ c. edge_meaning c.first c.last c.layers c.more c.port.transfer };
 
     ghost bounded = { λ c. patient c.more };
+
+    ghost Frame = { ℕ × ℕ };
+
+    ghost frame = { λ c. (c.layers, c.more) };
 
     fn look(&self, address: u32) -> Cell {
         if address < 8 {
@@ -84,25 +87,25 @@ impl Cells for EdgeCard {
 }
 
 impl Card for EdgeCard {
+    ghost choice = { λ c q. edge_choice c.more q.address };
+
+    fn transfer(&self) -> Option<Transfer> {
+        self.port.transfer()
+    }
+
     fn begin(&mut self, request: Request) -> Result<u16, Refusal> {
-        if self.transfer.is_some() {
-            return Err(Refusal::Transfer);
-        }
         let waits = self.more() + (request.address % 4) as u16;
-        self.transfer = Some(Transfer { request, waits });
-        Ok(waits)
+        self.port.begin(request, waits)
     }
 
     fn poll(&mut self) -> Result<Option<End>, Refusal> {
-        let transfer = self.transfer.take().ok_or(Refusal::Transfer)?;
-        self.transfer = transfer.after_wait();
-        if self.transfer.is_some() {
+        let Some(request) = self.port.poll()? else {
             return Ok(None);
-        }
-        Ok(Some(finish(self, transfer.request)))
+        };
+        Ok(Some(finish(self, request)))
     }
 
     fn cancel(&mut self) {
-        self.transfer = None;
+        self.port.cancel();
     }
 }

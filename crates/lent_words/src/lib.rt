@@ -1,0 +1,58 @@
+// Words that a program lends to a card under layers: an axis runs on the stack, and the words hold the memory of its run.
+// Each layer lies over a card that is lent, in a function of its own, so that the prover follows the loan through the stack.
+#![tactic(auto)]
+
+ghost use Rattle.std.specs.Prelude.{◌≡◌};
+ghost use Rattle.card.specs.Bottom.{beyond};
+ghost use Rattle.layer.specs.declared.kind.Kind.TheVariants.{Slow};
+ghost use Rattle.lent_words.specs.Lending.{under, under_both, lent, ClocksTo, axis_on, Ran};
+
+use card::{Card, WordCard};
+use clocked::Processor;
+use layer::{Kind, Layer};
+use machine::Axis;
+
+// Powers an axis up on the words, which a word card lies over, under an offset and a slow layer, and gives it so many clocks, up to
+// the first that is refused. Answers the processor.
+pub fn run_on_words(words: &mut [u32], base: u32, waits: u8, axis: Axis, clocks: u32) -> Processor
+    ensures words { Ran axis (under_both base waits) (lent words.old) result (lent words.new) }
+    ensures rest { beyond words.new ≡ beyond words.old }
+{
+    let mut card = WordCard::new(words);
+    run_over(&mut card, base, waits, axis, clocks)
+}
+
+// The same on any card, whose transfer is cancelled.
+pub fn run_over<C: Card>(card: &mut C, base: u32, waits: u8, axis: Axis, clocks: u32) -> Processor
+    ensures ran { Ran axis (under_both base waits) (C.Cells.meaning card.old)
+        result (C.Cells.meaning card.new) }
+    ensures frame { C.Cells.frame card.new ≡ C.Cells.frame card.old }
+{
+    let mut offset = Layer::new(Kind::Offset(base), card);
+    run_slowed(&mut offset, waits, axis, clocks)
+}
+
+#[tactic(auto, using(crate::proofs::Layers::known_axis))]
+fn run_slowed<C: Card>(card: &mut C, waits: u8, axis: Axis, clocks: u32) -> Processor
+    ensures ran { Ran axis (under (Slow waits)) (C.Cells.meaning card.old)
+        result (C.Cells.meaning card.new) }
+    ensures frame { C.Cells.frame card.new ≡ C.Cells.frame card.old }
+{
+    let mut slow = Layer::new(Kind::Slow(waits), card);
+    let mut processor = Processor::power_up(u32::from(axis), &mut slow).unwrap();
+    run(&mut processor, &mut slow, clocks);
+    processor
+}
+
+// So many clocks, up to the first that is refused.
+fn run<C: Card>(processor: &mut Processor, card: &mut C, clocks: u32)
+    ensures ran { ClocksTo (axis_on (C.Cells.meaning card.old) processor.old)
+        (axis_on (C.Cells.meaning card.new) processor.new) }
+    ensures frame { C.Cells.frame card.new ≡ C.Cells.frame card.old }
+{
+    'clocks: for _ in 0..clocks {
+        if processor.clock(card).is_err() {
+            return;
+        }
+    }
+}
