@@ -1,6 +1,8 @@
 -- Every call has an answer at every configuration.
+use Rattle.std.specs.Option.{option_map}
 use Rattle.std.proofs.Common.{◌≡◌, ℕ, zero, suc, true, false, Some, None, Ok, Err, Option, Result, refl, arith}
 use Rattle.refusal.specs.declared.Refusal.{Refusal}
+use Rattle.refusal.specs.Unless.{UnlessRefused}
 use Rattle.card.specs.declared.transfer.Request.{Request}
 use Rattle.card.specs.declared.transfer.Transfer.{Transfer}
 use Rattle.card.specs.Ends.{End, end_of}
@@ -14,12 +16,12 @@ use Rattle.clocked.specs.declared.tick.Tick.{Tick}
 use Rattle.clocked.specs.declared.processor.Processor.{Processor}
 use Rattle.clocked.specs.declared.tick.Answer.{Answer}
 use Rattle.clocked.specs.declared.tick.Answer.TheVariants.{On, Waiting, Ended}
-use Rattle.clocked.specs.Calls.{Did, Ends, Polls, PollsFrom, ClockedUnless, ResetUnless, DrawnUnless, SetUnless, GivenUnless}
+use Rattle.clocked.specs.Calls.{Did, Ends, Polls, PollsFrom, Accepted, not_taken}
 use Rattle.clocked.specs.Changes.{written_back, halting, restarting, locking, setting}
 use Rattle.clocked.specs.Control.{named}
 use Rattle.clocked.specs.Promise.{Answered}
 use Rattle.clocked.specs.Refusals.{when_transfer, clock_refusal, reset_refusal, draw_refusal, key_refusal}
-use Rattle.clocked.specs.Runs.{Config, Call, call_of, to_clock, to_reset, to_draw, to_set, to_give_back, clocked, reset, drawn, set, given, Made, MadeBy, Event}
+use Rattle.clocked.specs.Runs.{Config, config, Call, call_of, to_clock, to_reset, to_draw, to_set, to_give_back, clocked, reset, drawn, set, given, Made, MadeBy, Event}
 use Rattle.clocked.specs.Table.{Move, Row, moves, begins, polls, row_of}
 use Rattle.clocked.proofs.Calling.{no_lock, no_halt}
 use Rattle.clocked.proofs.Steps.{some_none}
@@ -51,17 +53,14 @@ module _ (p : Processor) (c : Meaning) where
   by_row (begins b n) e = record { answer = On; processor = n; card = waiting b 0 c; did = (refl, refl, (refl, omega arith)) }
   by_row (polls take s a) e = from take s a c.transfer e
 
-abbrev config : Processor → Meaning → Config
-config p c = record { processor = p; card = c }
-
 module _ (p : Processor) (c : Meaning) where
   gives : (e : Event) (q : Processor) (d : Meaning) → MadeBy e (config p c) (config q d) → Answered Made (config p c) (call_of e)
   gives e q d m = record { entry = record { before = config p c; event = e; after = config q d }; made = m; here = refl; of_call = refl }
 
   clock_answers : (x : Option Refusal) → clock_refusal p c ≡ x →
-      ((r : Result Tick Refusal) (q : Processor) (d : Meaning) → ClockedUnless x p c r q d → MadeBy (clocked r) (config p c) (config q d)) →
+      ((r : Result Tick Refusal) (q : Processor) (d : Meaning) → UnlessRefused x r ((q ≡ p) × (d ≡ c)) (Accepted r p c q d) → MadeBy (clocked r) (config p c) (config q d)) →
       Answered Made (config p c) to_clock
-  clock_answers (Some e) is made = gives (clocked (Err e)) p c (made (Err e) p c (refl, refl, refl))
+  clock_answers (Some e) is made = gives (clocked (Err e)) p c (made (Err e) p c (refl, (refl, refl)))
   clock_answers None is made =
       let free = no_lock p.locked _ is in
       let free = (no_halt p.fault _ free.1).1 in
@@ -70,14 +69,14 @@ module _ (p : Processor) (c : Meaning) where
       gives (clocked (Ok t)) r.processor r.card (made (Ok t) r.processor r.card (refl, r.did))
 
   reset_answers : (x : Option Refusal) →
-      ((r : Result (Unit {0}) Refusal) (q : Processor) (d : Meaning) → ResetUnless x p c r q d → MadeBy (reset r) (config p c) (config q d)) →
+      ((r : Result (Unit {0}) Refusal) (q : Processor) (d : Meaning) → UnlessRefused x r ((q ≡ p) × (d ≡ c)) ((r ≡ Ok tt) × (q ≡ restarting (written_back p)) × (d ≡ idle c)) → MadeBy (reset r) (config p c) (config q d)) →
       Answered Made (config p c) to_reset
-  reset_answers (Some e) made = gives (reset (Err e)) p c (made (Err e) p c (refl, refl, refl))
+  reset_answers (Some e) made = gives (reset (Err e)) p c (made (Err e) p c (refl, (refl, refl)))
   reset_answers None made =
       gives (reset (Ok tt)) (restarting (written_back p)) (idle c) (made (Ok tt) (restarting (written_back p)) (idle c) (refl, refl, refl))
 
   draw_answers : (x : Option Refusal) →
-      ((r : Result Key Refusal) (q : Processor) → DrawnUnless x p r q → MadeBy (drawn r) (config p c) (config q c)) →
+      ((r : Result Key Refusal) (q : Processor) → UnlessRefused x r (q ≡ p) ((r ≡ Ok (record { axis = axis_number p.axis })) × (q ≡ locking true (written_back p))) → MadeBy (drawn r) (config p c) (config q c)) →
       Answered Made (config p c) to_draw
   draw_answers (Some e) made = gives (drawn (Err e)) p c (made (Err e) p (refl, refl))
   draw_answers None made =
@@ -85,17 +84,16 @@ module _ (p : Processor) (c : Meaning) where
       gives (drawn (Ok k)) (locking true (written_back p)) c (made (Ok k) (locking true (written_back p)) (refl, refl))
 
   set_answers : (k : Key) (n w : ℕ) (x : Option Refusal) →
-      ((r : Result (Unit {0}) Refusal) (q : Processor) → SetUnless x p n w r q → MadeBy (set k n w r) (config p c) (config q c)) →
+      ((r : Result (Unit {0}) Refusal) (q : Processor) → UnlessRefused x r (q ≡ p) ((r ≡ Ok tt) × (q ≡ setting n w p)) → MadeBy (set k n w r) (config p c) (config q c)) →
       Answered Made (config p c) (to_set k n w)
   set_answers k n w (Some e) made = gives (set k n w (Err e)) p c (made (Err e) p (refl, refl))
   set_answers k n w None made = gives (set k n w (Ok tt)) (setting n w p) c (made (Ok tt) (setting n w p) (refl, refl))
 
   given_answers : (k : Key) (x : Option Refusal) →
-      ((r : Result (Unit {0}) NotTaken) (q : Processor) → GivenUnless x p k r q → MadeBy (given k r) (config p c) (config q c)) →
+      ((r : Result (Unit {0}) NotTaken) (q : Processor) → UnlessRefused (option_map (not_taken k) x) r (q ≡ p) ((r ≡ Ok tt) × (q ≡ locking false p)) → MadeBy (given k r) (config p c) (config q c)) →
       Answered Made (config p c) (to_give_back k)
   given_answers k (Some e) made =
-      let r : NotTaken = record { key = k; refusal = e } in
-      gives (given k (Err r)) p c (made (Err r) p (refl, refl))
+      gives (given k (Err (not_taken k e))) p c (made (Err (not_taken k e)) p (refl, refl))
   given_answers k None made = gives (given k (Ok tt)) (locking false p) c (made (Ok tt) (locking false p) (refl, refl))
 
 pub answers : (c : Config) (x : Call) → Answered Made c x

@@ -1,6 +1,8 @@
 -- What one call gives, of whichever kind and answer.
+use Rattle.std.specs.Option.{option_map}
 use Rattle.std.proofs.Common.{◌≡◌, ℕ, ◌+◌, Bool, true, false, cond, ◌&&◌, Some, None, Ok, Err, Option, Result, sym, refl, ap, ◌∙◌, subst}
 use Rattle.refusal.specs.declared.Refusal.{Refusal}
+use Rattle.refusal.specs.Unless.{UnlessRefused}
 use Rattle.card.specs.Meaning.{Meaning, idle}
 use Rattle.machine.specs.declared.fault.Fault.{Fault as Record}
 use Rattle.machine.specs.Axes.{axis_number}
@@ -14,13 +16,13 @@ use Rattle.clocked.specs.declared.pending.Pending.{Pending}
 use Rattle.clocked.specs.declared.processor.Processor.{Processor}
 use Rattle.clocked.specs.declared.tick.Answer.{Answer}
 use Rattle.clocked.specs.declared.tick.Tick.{Tick}
-use Rattle.clocked.specs.Calls.{Did, Accepted, ClockedUnless, ResetUnless, DrawnUnless, SetUnless, GivenUnless}
+use Rattle.clocked.specs.Calls.{Did, Accepted, not_taken}
 use Rattle.clocked.specs.Refusals.{when_locked, when_halted, clock_refusal, reset_refusal, draw_refusal, key_refusal, is_fetch0, is_at_rest, fits}
 use Rattle.clocked.specs.Comparison.{compared_after, with_register, since_after, begun, out_after}
 use Rattle.clocked.specs.Changes.{written_back, restarting, locking, setting}
 use Rattle.clocked.specs.Processor.{shown, storing}
 use Rattle.clocked.specs.Entries.{Answers, DidRow, Took, refusal_of, refusal_due, Unchanged, KeyStays}
-use Rattle.clocked.specs.Runs.{Config, outcome_of, tick_of, Event, clocked, reset, drawn, set, given, MadeBy}
+use Rattle.clocked.specs.Runs.{Config, config, outcome_of, tick_of, Event, clocked, reset, drawn, set, given, MadeBy}
 use Rattle.clocked.specs.Table.{row_of}
 use Rattle.clocked.proofs.Invariant.{At, Inv, Rest, Mid, μ}
 use Rattle.clocked.proofs.Gives.{Gives, FallsBy}
@@ -49,9 +51,6 @@ pub record Follows (A : State) (n w : ℕ) (b : Config) (e : Event) (a : Config)
   pub stays : KeyStays e
   pub locked : a.processor.locked ≡ out_after e b.processor.locked
   pub falls : FallsAfter e (μ b.processor b.card) (μ a.processor a.card)
-
-abbrev config : Processor → Meaning → Config
-config p c = record { processor = p; card = c }
 
 same_config : (p q : Processor) (c d : Meaning) → q ≡ p → d ≡ c → config q d ≡ config p c
 same_config p q c d qp dc = ap (λ (x : Processor). config x d) qp ∙ ap (λ (x : Meaning). config p x) dc
@@ -156,16 +155,16 @@ module _ (A : State) (n w : ℕ) (p : Processor) (c : Meaning) (inv : Inv A n w 
       }
 
   clock_unless : (x : Option Refusal) → clock_refusal p c ≡ x → (r : Result Tick Refusal) (q : Processor) (d : Meaning) →
-      ClockedUnless x p c r q d → Follows A n w (config p c) (clocked r) (config q d)
+      UnlessRefused x r ((q ≡ p) × (d ≡ c)) (Accepted r p c q d) → Follows A n w (config p c) (clocked r) (config q d)
   clock_unless None is r q d h = accepted r q d is h
   clock_unless (Some e) is r q d h =
       subst (λ (y : Result Tick Refusal). Follows A n w (config p c) (clocked y) (config q d)) (sym h.0)
-      (quietly (clocked (Err e)) (config q d) tt (kept q d h.1 h.2) (sym is) (same_config p q c d h.1 h.2) tt
-      (ap (λ (y : Processor). y.locked) h.1))
+      (quietly (clocked (Err e)) (config q d) tt (kept q d h.1.0 h.1.1) (sym is) (same_config p q c d h.1.0 h.1.1) tt
+      (ap (λ (y : Processor). y.locked) h.1.0))
 
   -- Reset.
   reset_unless : (x : Option Refusal) → reset_refusal p ≡ x → (r : Result (Unit {0}) Refusal) (q : Processor) (d : Meaning) →
-      ResetUnless x p c r q d → Follows A n w (config p c) (reset r) (config q d)
+      UnlessRefused x r ((q ≡ p) × (d ≡ c)) ((r ≡ Ok tt) × (q ≡ restarting (written_back p)) × (d ≡ idle c)) → Follows A n w (config p c) (reset r) (config q d)
   reset_unless None is r q d h =
       subst (λ (y : Result (Unit {0}) Refusal). Follows A n w (config p c) (reset y) (config q d)) (sym h.0)
       (subst (λ (y : Config). Follows A n w (config p c) (reset (Ok tt)) y)
@@ -181,8 +180,8 @@ module _ (A : State) (n w : ℕ) (p : Processor) (c : Meaning) (inv : Inv A n w 
       (sym is) tt tt refl))
   reset_unless (Some e) is r q d h =
       subst (λ (y : Result (Unit {0}) Refusal). Follows A n w (config p c) (reset y) (config q d)) (sym h.0)
-      (quietly (reset (Err e)) (config q d) tt (kept q d h.1 h.2) (sym is) (same_config p q c d h.1 h.2) tt
-      (ap (λ (y : Processor). y.locked) h.1))
+      (quietly (reset (Err e)) (config q d) tt (kept q d h.1.0 h.1.1) (sym is) (same_config p q c d h.1.0 h.1.1) tt
+      (ap (λ (y : Processor). y.locked) h.1.0))
 
   -- At rest, the processor q of a key's call has the same to show, or the register that was set.
   module _ (B : State) (q : Processor) where
@@ -196,7 +195,7 @@ module _ (A : State) (n w : ℕ) (p : Processor) (c : Meaning) (inv : Inv A n w 
 
   -- Draw.
   draw_unless : (x : Option Refusal) → draw_refusal p ≡ x → (r : Result Key Refusal) (q : Processor) (d : Meaning) →
-      DrawnUnless x p r q → d ≡ c → Follows A n w (config p c) (drawn r) (config q d)
+      UnlessRefused x r (q ≡ p) ((r ≡ Ok (record { axis = axis_number p.axis })) × (q ≡ locking true (written_back p))) → d ≡ c → Follows A n w (config p c) (drawn r) (config q d)
   draw_unless None is r q d h dc =
       let free = no_lock p.locked _ is in
       let at = holds (is_at_rest p) _ free.1 in
@@ -221,7 +220,7 @@ module _ (A : State) (n w : ℕ) (p : Processor) (c : Meaning) (inv : Inv A n w 
       ∙ ap (λ (z : Option Pending). record { axis = p.axis; registers = storing z (put p.registers.words m v); pc = p.pc; flags = p.flags; map = c.map; fault = p.fault }) (sym none)
 
   set_unless : (k : Key) (m v : ℕ) (x : Option Refusal) → key_refusal k p ≡ x → (r : Result (Unit {0}) Refusal) (q : Processor) (d : Meaning) →
-      SetUnless x p m v r q → d ≡ c → Follows A n w (config p c) (set k m v r) (config q d)
+      UnlessRefused x r (q ≡ p) ((r ≡ Ok tt) × (q ≡ setting m v p)) → d ≡ c → Follows A n w (config p c) (set k m v r) (config q d)
   set_unless k m v None is r q d h dc =
       let out = second _ p.locked (holds (fits k p) _ is) in
       subst (λ (y : Result (Unit {0}) Refusal). Follows A n w (config p c) (set k m v y) (config q d)) (sym h.0)
@@ -245,7 +244,7 @@ module _ (A : State) (n w : ℕ) (p : Processor) (c : Meaning) (inv : Inv A n w 
 
   -- Give back.
   given_unless : (k : Key) (x : Option Refusal) → key_refusal k p ≡ x → (r : Result (Unit {0}) NotTaken) (q : Processor) (d : Meaning) →
-      GivenUnless x p k r q → d ≡ c → Follows A n w (config p c) (given k r) (config q d)
+      UnlessRefused (option_map (not_taken k) x) r (q ≡ p) ((r ≡ Ok tt) × (q ≡ locking false p)) → d ≡ c → Follows A n w (config p c) (given k r) (config q d)
   given_unless k None is r q d h dc =
       let out = second _ p.locked (holds (fits k p) _ is) in
       subst (λ (y : Result (Unit {0}) NotTaken). Follows A n w (config p c) (given k y) (config q d)) (sym h.0)
@@ -264,7 +263,7 @@ module _ (A : State) (n w : ℕ) (p : Processor) (c : Meaning) (inv : Inv A n w 
       (sym is) tt tt refl))
   given_unless k (Some e) is r q d h dc =
       subst (λ (y : Result (Unit {0}) NotTaken). Follows A n w (config p c) (given k y) (config q d)) (sym h.0)
-      (quietly (given k (Err (record { key = k; refusal = e }))) (config q d) tt (kept q d h.1 dc) (sym is) (same_config p q c d h.1 dc) refl
+      (quietly (given k (Err (not_taken k e))) (config q d) tt (kept q d h.1 dc) (sym is) (same_config p q c d h.1 dc) refl
       (ap (λ (y : Processor). y.locked) h.1))
 
   pub follows : (e : Event) (a : Config) → MadeBy e (config p c) a → Follows A n w (config p c) e a

@@ -1,6 +1,7 @@
 -- The promise, of the processor and the card that power-up hands back: the invariant along every run, and the clocks left.
 use Rattle.std.proofs.Common.{◌≡◌, ℕ, ◌+◌, ◌*◌, ◌≤◌, Bool, true, false, ◌||◌, ◌&&◌, ◌==◌, Option, Some, List, [], ◌∷◌, length, is_some, None, Ok, Err, Result, sym, refl, ap, ◌∙◌, subst, arith}
 use Rattle.refusal.specs.declared.Refusal.{Refusal}
+use Rattle.refusal.specs.Unless.{UnlessRefused}
 use Rattle.card.specs.Meaning.{Meaning, idle}
 use Rattle.machine.specs.declared.axis.Axis.{Axis}
 use Rattle.machine.specs.declared.axis.Axis.TheVariants.{One, Two, Three}
@@ -12,10 +13,11 @@ use Rattle.clocked.specs.declared.control.Control.TheVariants.{Fetch0, Fetch1, F
 use Rattle.clocked.specs.declared.processor.Processor.{Processor}
 use Rattle.clocked.specs.declared.tick.Answer.{Answer}
 use Rattle.clocked.specs.declared.tick.Answer.TheVariants.{On, Waiting, Ended}
-use Rattle.clocked.specs.Calls.{PoweredAs, DrawnUnless, waits_left}
+use Rattle.clocked.specs.Calls.{PoweredAs, waits_left}
 use Rattle.clocked.specs.Refusals.{clock_refusal, draw_refusal, fits}
 use Rattle.clocked.specs.Comparison.{compared, compared_by, clocks_since, waits_since, key_out, out_after}
 use Rattle.clocked.specs.Entries.{KeyFits}
+use Rattle.clocked.specs.Changes.{written_back, locking}
 use Rattle.clocked.specs.Processor.{fresh}
 use Rattle.clocked.specs.Promise.{Promise, Promised, Agreement, Timing, Refusing, Keyed, Running, AreClocks, some_ends}
 use Rattle.clocked.specs.Runs.{Config, outcome_by, outcome_of, Event, clocked, reset, drawn, set, given, Entry, events, Run, none, more, Made, MadeBy}
@@ -41,7 +43,9 @@ own_axis One = refl
 own_axis Two = refl
 own_axis Three = refl
 
-drawn_fits : (x : Option Refusal) (p : Processor) (r : Result Key Refusal) (a : Config) → DrawnUnless x p r a.processor → KeyFits (drawn r) a
+drawn_fits : (x : Option Refusal) (p : Processor) (r : Result Key Refusal) (a : Config) →
+    UnlessRefused x r (a.processor ≡ p) ((r ≡ Ok (record { axis = axis_number p.axis })) × (a.processor ≡ locking true (written_back p))) →
+    KeyFits (drawn r) a
 drawn_fits None p r a h =
     subst (λ (y : Result Key Refusal). KeyFits (drawn y) a) (sym h.0)
     (subst (λ (q : Processor). fits (record { axis = axis_number p.axis }) q ≡ true) (sym h.1) (own_axis p.axis))

@@ -1,7 +1,8 @@
 -- What the private functions of a clock promise: the card's answer in a state that polls, and the row of a state.
 -- A reader must believe: nothing; no public contract cites this.
-use Rattle.std.specs.Prelude.{◌≡◌, Bool, true, false, Some, None, Ok, Err, Option, Result}
+use Rattle.std.specs.Prelude.{◌≡◌, Bool, true, false, None, Ok, Option, Result, IsOkAnd}
 use Rattle.refusal.specs.declared.Refusal.{Refusal}
+use Rattle.refusal.specs.Unless.{UnlessRefused}
 use Rattle.card.specs.Ends.{End}
 use Rattle.card.specs.Meaning.{Meaning, Answered}
 use Rattle.clocked.specs.declared.processor.Processor.{Processor}
@@ -24,13 +25,7 @@ is_poll (begins b q) = false
 is_poll (polls take s a) = true
 
 -- The row of the processor's state, or a refusal for the transfer.
-abbrev pub AdvancedAs : Result Answer Refusal → Processor → Meaning → Processor → Meaning → Type 0
-AdvancedAs (Ok t) p c q d = Did (row_of p.control p) p c t q d
-AdvancedAs (Err e) p c q d = ⊥
-
-abbrev pub AdvancedUnless : Option Refusal → Processor → Meaning → Result Answer Refusal → Processor → Meaning → Type 0
-AdvancedUnless (Some e) p c r q d = (r ≡ Err e) × (q ≡ p) × (d ≡ c)
-AdvancedUnless None p c r q d = AdvancedAs r p c q d
-
 abbrev pub Advanced : Processor → Meaning → Result Answer Refusal → Processor → Meaning → Type 0
-Advanced p c r q d = AdvancedUnless (when_transfer (row_of p.control p) c.transfer) p c r q d
+Advanced p c r q d =
+    UnlessRefused (when_transfer (row_of p.control p) c.transfer) r ((q ≡ p) × (d ≡ c))
+    (IsOkAnd r (λ t. Did (row_of p.control p) p c t q d))

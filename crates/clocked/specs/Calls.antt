@@ -1,7 +1,9 @@
 -- What each call does to a processor and its card.
 -- A reader must believe: a refused call answers its refusal and changes nothing.
-use Rattle.std.specs.Prelude.{◌≡◌, ℕ, zero, suc, ◌≤◌, true, false, Some, None, Ok, Err, Option, Result}
+use Rattle.std.specs.Prelude.{◌≡◌, ℕ, zero, suc, ◌≤◌, true, false, Some, None, Ok, Err, Option, Result, IsOkAnd}
+use Rattle.std.specs.Option.{option_map}
 use Rattle.refusal.specs.declared.Refusal.{Refusal}
+use Rattle.refusal.specs.Unless.{UnlessRefused}
 use Rattle.card.specs.declared.transfer.Request.{Request}
 use Rattle.card.specs.declared.transfer.Transfer.{Transfer}
 use Rattle.card.specs.Ends.{End, end_of}
@@ -61,43 +63,30 @@ Did (polls take s a) p c t q d = PollsFrom c.transfer take s a p c t q d
 
 -- An accepted clock answers the state that it was in, and does that state's row.
 abbrev pub Accepted : Result Tick Refusal → Processor → Meaning → Processor → Meaning → Type 0
-Accepted (Ok t) p c q d = (t.state ≡ named p.control) × Did (row_of p.control p) p c t.answer q d
-Accepted (Err e) p c q d = ⊥
-
-abbrev pub ClockedUnless : Option Refusal → Processor → Meaning → Result Tick Refusal → Processor → Meaning → Type 0
-ClockedUnless (Some e) p c r q d = (r ≡ Err e) × (q ≡ p) × (d ≡ c)
-ClockedUnless None p c r q d = Accepted r p c q d
+Accepted r p c q d = IsOkAnd r (λ t. (t.state ≡ named p.control) × Did (row_of p.control p) p c t.answer q d)
 
 abbrev pub Clocked : Processor → Meaning → Result Tick Refusal → Processor → Meaning → Type 0
-Clocked p c r q d = ClockedUnless (clock_refusal p c) p c r q d
+Clocked p c r q d = UnlessRefused (clock_refusal p c) r ((q ≡ p) × (d ≡ c)) (Accepted r p c q d)
 
 -- Reset stores a pending result, cancels the transfer, sets PC to 0, ends a halt and leads to the boundary.
-abbrev pub ResetUnless : Option Refusal → Processor → Meaning → Result (Unit {0}) Refusal → Processor → Meaning → Type 0
-ResetUnless (Some e) p c r q d = (r ≡ Err e) × (q ≡ p) × (d ≡ c)
-ResetUnless None p c r q d = (r ≡ Ok tt) × (q ≡ restarting (written_back p)) × (d ≡ idle c)
-
 abbrev pub Reset : Processor → Meaning → Result (Unit {0}) Refusal → Processor → Meaning → Type 0
-Reset p c r q d = ResetUnless (reset_refusal p) p c r q d
+Reset p c r q d =
+    UnlessRefused (reset_refusal p) r ((q ≡ p) × (d ≡ c))
+    ((r ≡ Ok tt) × (q ≡ restarting (written_back p)) × (d ≡ idle c))
 
 -- Draw stores a pending result, and its key bears the axis.
-abbrev pub DrawnUnless : Option Refusal → Processor → Result Key Refusal → Processor → Type 0
-DrawnUnless (Some e) p r q = (r ≡ Err e) × (q ≡ p)
-DrawnUnless None p r q = (r ≡ Ok (record { axis = axis_number p.axis })) × (q ≡ locking true (written_back p))
-
 abbrev pub Drawn : Processor → Result Key Refusal → Processor → Type 0
-Drawn p r q = DrawnUnless (draw_refusal p) p r q
-
-abbrev pub SetUnless : Option Refusal → Processor → ℕ → ℕ → Result (Unit {0}) Refusal → Processor → Type 0
-SetUnless (Some e) p n w r q = (r ≡ Err e) × (q ≡ p)
-SetUnless None p n w r q = (r ≡ Ok tt) × (q ≡ setting n w p)
+Drawn p r q =
+    UnlessRefused (draw_refusal p) r (q ≡ p)
+    ((r ≡ Ok (record { axis = axis_number p.axis })) × (q ≡ locking true (written_back p)))
 
 abbrev pub Set : Processor → Key → ℕ → ℕ → Result (Unit {0}) Refusal → Processor → Type 0
-Set p k n w r q = SetUnless (key_refusal k p) p n w r q
+Set p k n w r q = UnlessRefused (key_refusal k p) r (q ≡ p) ((r ≡ Ok tt) × (q ≡ setting n w p))
 
 -- A refused give back answers the key itself.
-abbrev pub GivenUnless : Option Refusal → Processor → Key → Result (Unit {0}) NotTaken → Processor → Type 0
-GivenUnless (Some e) p k r q = (r ≡ Err (record { key = k; refusal = e })) × (q ≡ p)
-GivenUnless None p k r q = (r ≡ Ok tt) × (q ≡ locking false p)
+abbrev pub not_taken : Key → Refusal → NotTaken
+not_taken k e = record { key = k; refusal = e }
 
 abbrev pub Given : Processor → Key → Result (Unit {0}) NotTaken → Processor → Type 0
-Given p k r q = GivenUnless (key_refusal k p) p k r q
+Given p k r q =
+    UnlessRefused (option_map (not_taken k) (key_refusal k p)) r (q ≡ p) ((r ≡ Ok tt) × (q ≡ locking false p))

@@ -18,6 +18,9 @@ pub record Config : Type 0 where
   pub processor : Processor
   pub card : Meaning
 
+abbrev pub config : Processor → Meaning → Config
+config p c = record { processor = p; card = c }
+
 -- A call with its arguments and its answer.
 pub data Event : Type 0 where
   clocked : Result Tick Refusal → Event
@@ -76,13 +79,22 @@ pub data Run (M : Entry → Type 0) (start : Config) : List Entry → Config →
   none : Run M start [] start
   more : (e : Entry) (es : List Entry) → Run M start es e.before → M e → Run M start (e ∷ es) e.after
 
--- What the five calls of a processor make: the relations of their own contracts. The last three are not lent the card.
+-- What the three calls that are not lent the card make of the processor: their contracts.
+abbrev pub MadeWithoutCard : Event → Processor → Processor → Type 0
+MadeWithoutCard (clocked r) p q = ⊥
+MadeWithoutCard (reset r) p q = ⊥
+MadeWithoutCard (drawn r) p q = Drawn p r q
+MadeWithoutCard (set k n w r) p q = Set p k n w r q
+MadeWithoutCard (given k r) p q = Given p k r q
+
+-- What the five calls make of processor and card: the contracts of the clock and the reset, and of the others, which leave
+-- the card.
 abbrev pub MadeBy : Event → Config → Config → Type 0
 MadeBy (clocked r) b a = Clocked b.processor b.card r a.processor a.card
 MadeBy (reset r) b a = Reset b.processor b.card r a.processor a.card
-MadeBy (drawn r) b a = Drawn b.processor r a.processor × (a.card ≡ b.card)
-MadeBy (set k n w r) b a = Set b.processor k n w r a.processor × (a.card ≡ b.card)
-MadeBy (given k r) b a = Given b.processor k r a.processor × (a.card ≡ b.card)
+MadeBy (drawn r) b a = MadeWithoutCard (drawn r) b.processor a.processor × (a.card ≡ b.card)
+MadeBy (set k n w r) b a = MadeWithoutCard (set k n w r) b.processor a.processor × (a.card ≡ b.card)
+MadeBy (given k r) b a = MadeWithoutCard (given k r) b.processor a.processor × (a.card ≡ b.card)
 
 abbrev pub Made : Entry → Type 0
 Made e = MadeBy e.event e.before e.after

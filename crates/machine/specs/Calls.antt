@@ -1,6 +1,6 @@
 -- What the machine's calls do to it and to its card.
 -- A reader must believe: the order of the refusals, and that a refused call leaves machine and card as they were.
-use Rattle.std.specs.Prelude.{◌≡◌, ℕ, Some, None, Ok, Err, Option, Result}
+use Rattle.std.specs.Prelude.{◌≡◌, ℕ, Some, None, Ok, Err, Option, Result, IsOkAnd}
 use Rattle.std.specs.Borrow.{MutBor}
 use Rattle.std.specs.Result.{result_ok}
 use Rattle.refusal.specs.declared.Refusal.{Refusal}
@@ -20,8 +20,7 @@ use Rattle.machine.specs.Step.{Step, answered, step}
 
 -- Power-up: refused unless the axis is 1, 2 or 3.
 abbrev pub PoweredOk : Axis → Meaning → Result Machine Refusal → Meaning → Type 0
-PoweredOk a c (Ok m) d = (state_of m d.map ≡ powered_up a c.map) × (d ≡ idle c)
-PoweredOk a c (Err e) d = ⊥
+PoweredOk a c r d = IsOkAnd r (λ m. (state_of m d.map ≡ powered_up a c.map) × (d ≡ idle c))
 
 abbrev pub PoweredAs : Result Axis Refusal → Meaning → Result Machine Refusal → Meaning → Type 0
 PoweredAs (Ok a) c r d = PoweredOk a c r d

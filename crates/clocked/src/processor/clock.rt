@@ -7,10 +7,10 @@ ghost use Rattle.machine.specs.State.{plus};
 ghost use Rattle.clocked.specs.declared.control.Control.TheVariants.{Fetch0, Fetch1};
 ghost use Rattle.clocked.specs.declared.tick.Answer.TheVariants.{On, Ended};
 ghost use Rattle.clocked.specs.Advance.{Advanced, PolledFor, is_poll};
-ghost use Rattle.clocked.specs.Calls.{Clocked};
 ghost use Rattle.clocked.specs.Control.{reads_at};
 ghost use Rattle.clocked.specs.Changes.{going, going_at, noting, written_back, halting};
 ghost use Rattle.clocked.specs.Refusals.{asks_card};
+ghost use Rattle.clocked.specs.Runs.{config, clocked, MadeBy};
 ghost use Rattle.clocked.specs.Table.{row_of, asks, decodes, executes, latches, branches, completes};
 
 use super::Processor;
@@ -28,8 +28,8 @@ impl Processor {
     // transfer in being where one begins, or none where one is polled.
     #[tactic(auto, using(crate::proofs::Refusing::refused_clock))]
     pub fn clock<C: Card>(&mut self, card: &mut C) -> Result<Tick, Refusal>
-        ensures clocked { Clocked self.old (C.Cells.meaning card.old)
-            result self.new (C.Cells.meaning card.new) }
+        ensures made { MadeBy (clocked result) (config self.old (C.Cells.meaning card.old))
+            (config self.new (C.Cells.meaning card.new)) }
         ensures frame { C.Cells.frame card.new ≡ C.Cells.frame card.old }
         ensures untouched { asks_card self.old ≡ false → card.new ≡ card.old }
     {

@@ -1,7 +1,7 @@
 // The service key: drawing it locks the processor, a register can be set with it, and giving it back ends the lock.
 ghost use Rattle.std.specs.Prelude.{◌≡◌};
-ghost use Rattle.clocked.specs.Calls.{Drawn, Set, Given};
 ghost use Rattle.clocked.specs.Refusals.{is_at_rest, fits};
+ghost use Rattle.clocked.specs.Runs.{drawn, set, given, MadeWithoutCard};
 
 use super::Processor;
 use crate::control::Control;
@@ -12,7 +12,7 @@ impl Processor {
     // Stores a pending result and answers the key, which locks the processor until it is given back. Refused if the key is
     // out, or at neither a boundary nor a halt.
     pub fn draw(&mut self) -> Result<Key, Refusal>
-        ensures { Drawn self.old result self.new }
+        ensures { MadeWithoutCard (drawn result) self.old self.new }
     {
         if self.locked {
             return Err(Refusal::KeyOut);
@@ -43,7 +43,7 @@ impl Processor {
 
     // Stores a word in a register. Refused unless the key fits.
     pub fn set(&mut self, key: &Key, register: u8, word: u32) -> Result<(), Refusal>
-        ensures { Set self.old key.now register word result self.new }
+        ensures { MadeWithoutCard (set key.now register word result) self.old self.new }
     {
         if !self.fits(key) {
             return Err(Refusal::Misfit);
@@ -54,7 +54,7 @@ impl Processor {
 
     // Takes the key and ends the lock. Refused, with the key handed back, unless it fits.
     pub fn give_back(&mut self, key: Key) -> Result<(), NotTaken>
-        ensures { Given self.old key result self.new }
+        ensures { MadeWithoutCard (given key result) self.old self.new }
     {
         if !self.fits(&key) {
             return Err(NotTaken {
