@@ -11,5 +11,6 @@ mod Executing
 mod Resting
 mod Calling
 mod Answering
+mod Determining
 mod Theorem
 mod Refuted

@@ -7,6 +7,7 @@ pub mod Calls
 pub mod Advance
 pub mod Runs
 pub mod Comparison
+pub mod Determined
 pub mod Entries
 pub mod Promise
 pub mod Wrong

@@ -6,8 +6,10 @@ ghost use Rattle.machine.specs.Registers.{read};
 ghost use Rattle.clocked.specs.Calls.{PoweredUp};
 ghost use Rattle.clocked.specs.Control.{named};
 ghost use Rattle.clocked.specs.Changes.{written_back};
+ghost use Rattle.clocked.specs.Determined.{Determined};
 ghost use Rattle.clocked.specs.Processor.{registers_of};
 ghost use Rattle.clocked.specs.Promise.{Promised};
+ghost use Rattle.clocked.specs.Runs.{Made};
 ghost use Rattle.clocked.specs.Wrong.{Refuted};
 
 use super::control::{Control, ControlState};
@@ -39,8 +41,9 @@ pub struct Processor {
 
 impl Processor {
     // A processor at the boundary, with registers, flags and PC zero; it cancels the card's transfer. Refused unless the
-    // axis is 1, 2 or 3. What is promised of every run from here on is `Promised`; `Refuted` shows wrong machines to break it.
-    #[tactic(auto, using(crate::proofs::Theorem::promised, crate::proofs::Refuted::refuted))]
+    // axis is 1, 2 or 3. What is promised of every run from here on is `Promised`; `Determined` says what decides a call, and
+    // `Refuted` shows wrong machines to break the promise.
+    #[tactic(auto, using(crate::proofs::Theorem::promised, crate::proofs::Determining::determined, crate::proofs::Refuted::refuted))]
     pub fn power_up<C: Card>(axis: u32, card: &mut C) -> Result<Processor, Refusal>
         ensures powered { PoweredUp axis (C.Cells.meaning card.old)
             result (C.Cells.meaning card.new) }
@@ -48,6 +51,7 @@ impl Processor {
         ensures untouched { OnErr result (card.new ≡ card.old) }
         ensures promise { Promised (axis_of axis) (C.Cells.meaning card.old)
             result (C.Cells.meaning card.new) }
+        ensures determined { Determined Made }
         ensures refuted { Refuted }
     {
         let axis = Axis::try_from(axis)?;
