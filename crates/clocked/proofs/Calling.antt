@@ -79,11 +79,11 @@ pub no_halt : (f : Option Record) (x : Option Refusal) → when_halted f x ≡ N
 no_halt None x e = (refl, e)
 no_halt (Some f) x e = elim (some_none _ e) [ ]
 
-holds : (b : Bool) (r : Refusal) → cond b None (Some r) ≡ None → b ≡ true
+pub holds : (b : Bool) (r : Refusal) → cond b None (Some r) ≡ None → b ≡ true
 holds true r e = refl
 holds false r e = elim (some_none _ e) [ ]
 
-second : (a b : Bool) → (a && b) ≡ true → b ≡ true
+pub second : (a b : Bool) → (a && b) ≡ true → b ≡ true
 second true b e = e
 second false b e = elim (never_both false refl e) [ ]
 

@@ -130,7 +130,7 @@ execute0 A n w i v p c t q d at did =
     did.0 did.1 did.2 (by_class A n w i v p c (class_in i) (taken_in i p) at.0 at.1)
 
 -- A transfer that ends in a fault leaves the map.
-fault_leaves : (b : Direction) (x : Cell) (f : Map) (a : ℕ) (why : AccessFault) → end_of b x ≡ Err why → f ≡ leaves_at b x f a
+pub fault_leaves : (b : Direction) (x : Cell) (f : Map) (a : ℕ) (why : AccessFault) → end_of b x ≡ Err why → f ≡ leaves_at b x f a
 fault_leaves Read x f a why e = refl
 fault_leaves (Write v) (Absent u) f a why e = refl
 fault_leaves (Write v) (Fixed y u) f a why e = refl

@@ -11,6 +11,9 @@ mod Executing
 mod Resting
 mod Calling
 mod Answering
+mod Latched
+mod Obeying
+mod Keeping
 mod Determining
 mod Theorem
 mod Refuted

@@ -19,12 +19,14 @@ use Rattle.clocked.specs.Comparison.{compared, compared_by, clocks_since, waits_
 use Rattle.clocked.specs.Entries.{KeyFits}
 use Rattle.clocked.specs.Changes.{written_back, locking}
 use Rattle.clocked.specs.Processor.{fresh}
-use Rattle.clocked.specs.Promise.{Promise, Promised, Agreement, Timing, Refusing, Keyed, Running, AreClocks, some_ends}
+use Rattle.clocked.specs.Promise.{Promise, Promised, Agreement, Timing, Refusing, Keyed, Lawful, Running, AreClocks, some_ends}
 use Rattle.clocked.specs.Runs.{Config, outcome_by, outcome_of, Event, clocked, reset, drawn, set, given, Entry, events, Run, none, more, Made, MadeBy}
 use Rattle.clocked.proofs.Invariant.{At, Inv, clocks_left, μ}
 use Rattle.clocked.proofs.Answering.{answers}
 use Rattle.clocked.proofs.Gives.{FallsBy}
 use Rattle.clocked.proofs.Calling.{Follows, follows}
+use Rattle.clocked.proofs.Keeping.{keeps}
+use Rattle.clocked.proofs.Latched.{Latched}
 use Rattle.clocked.proofs.Resting.{Where, whereabouts, same_fault, agreeing, running_refusal, due}
 use Rattle.clocked.proofs.Steps.{never_both, some_none}
 
@@ -59,17 +61,20 @@ fitting (set k n w r) b a h = tt
 fitting (given k r) b a h = tt
 
 -- The invariant holds along a run, compared with the machine that began in the state s with n clocks and w waits.
-module _ (start : Config) (s : State) (key : start.processor.locked ≡ false) (at : Inv s 0 0 start.processor start.card) where
+module _ (start : Config) (s : State) (key : start.processor.locked ≡ false) (at : Inv s 0 0 start.processor start.card)
+    (at_start : Latched start.processor.control s) where
   pub record Along (es : List Entry) (c : Config) : Type 0 where
     pub inv : Inv (compared s (events es)) (clocks_since (events es)) (waits_since es) c.processor c.card
     pub lock : c.processor.locked ≡ key_out (events es)
+    pub latched : Latched c.processor.control (compared s (events es))
 
   along : {es : List Entry} {c : Config} → Run Made start es c → Along es c
-  along none = record { inv = at; lock = key }
+  along none = record { inv = at; lock = key; latched = at_start }
   along (more e es r m) =
       let h = along r in
       let f = follows _ _ _ e.before.processor e.before.card h.inv e.event e.after m in
-      record { inv = f.inv; lock = f.locked ∙ ap (out_after e.event) h.lock }
+      let k = keeps _ _ _ e.before.processor e.before.card h.inv h.latched e.event e.after m in
+      record { inv = f.inv; lock = f.locked ∙ ap (out_after e.event) h.lock; latched = k.latched }
 
   module _ (e : Entry) (es : List Entry) (r : Run Made start (e ∷ es) e.after) where
     gives : Follows (compared s (events es)) (clocks_since (events es)) (waits_since es) e.before e.event e.after
@@ -91,6 +96,11 @@ module _ (start : Config) (s : State) (key : start.processor.locked ≡ false) (
 
     refusing : Refusing es e
     refusing = record { refused = gives.refused; unchanged = gives.unchanged }
+
+    lawful : Lawful s es e
+    lawful =
+        let h = along (before r).0 in
+        (keeps _ _ _ e.before.processor e.before.card h.inv h.latched e.event e.after (before r).1).laws
 
     keyed : Keyed es e
     keyed =
@@ -215,11 +225,12 @@ holds a c =
     let first : State = powered_up a c.map in
     record {
       starts = record { boundary = refl; running = record { unhalted = refl; unlocked = refl }; idle = refl; agrees = refl };
-      agreement = agreement start first refl (start_at a c);
-      timing = timing start first refl (start_at a c);
-      refusing = refusing start first refl (start_at a c);
-      keyed = keyed start first refl (start_at a c);
-      progress = λ b es r runs d fs. progress b _ _ _ (along start first refl (start_at a c) r).inv runs d fs;
+      agreement = agreement start first refl (start_at a c) tt;
+      timing = timing start first refl (start_at a c) tt;
+      refusing = refusing start first refl (start_at a c) tt;
+      keyed = keyed start first refl (start_at a c) tt;
+      lawful = lawful start first refl (start_at a c) tt;
+      progress = λ b es r runs d fs. progress b _ _ _ (along start first refl (start_at a c) tt r).inv runs d fs;
       answering = λ c es r x. answers c x;
     }
 

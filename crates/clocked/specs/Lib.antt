@@ -9,5 +9,6 @@ pub mod Runs
 pub mod Comparison
 pub mod Determined
 pub mod Entries
+pub mod ClockLaws
 pub mod Promise
 pub mod Wrong

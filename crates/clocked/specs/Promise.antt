@@ -8,6 +8,7 @@ use Rattle.machine.specs.declared.axis.Axis.{Axis}
 use Rattle.machine.specs.State.{State, powered_up}
 use Rattle.clocked.specs.declared.control.Control.TheVariants.{Fetch0}
 use Rattle.clocked.specs.declared.processor.Processor.{Processor}
+use Rattle.clocked.specs.ClockLaws.{KeepsClockLaws}
 use Rattle.clocked.specs.Entries.{Answers, DidRow, Took, refusal_of, refusal_due, Unchanged, KeyStays, KeyFits}
 use Rattle.clocked.specs.Refusals.{is_at_rest}
 use Rattle.clocked.specs.Comparison.{compared, clocks_since, begun_in, waits_since, key_out}
@@ -41,6 +42,10 @@ pub record Keyed (es : List Entry) (e : Entry) : Type 0 where
   pub key_fits : KeyFits e.event e.after
   pub stays : KeyStays e.event
   pub locked : e.after.processor.locked ≡ key_out (events (e ∷ es))
+
+-- An accepted clock keeps the laws of a clock, by the instruction that the comparison machine does next.
+abbrev pub Lawful : State → List Entry → Entry → Type 0
+Lawful first es e = KeepsClockLaws (tick_of e.event) (compared first (events es)) e.before e.after
 
 -- What holds of every entry of every run of M from the configuration `start`, with the entries before it.
 abbrev pub Always : (Entry → Type 0) → Config → (List Entry → Entry → Type 0) → Type 0
@@ -94,6 +99,7 @@ pub record Promise (M : Entry → Type 0) (first : State) (start : Config) : Typ
   pub timing : Always M start (Timing first)
   pub refusing : Always M start Refusing
   pub keyed : Always M start Keyed
+  pub lawful : Always M start (Lawful first)
   pub progress : Progress M start
   pub answering : Answering M start
 
