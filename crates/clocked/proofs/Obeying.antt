@@ -1,5 +1,5 @@
 -- An accepted clock keeps the laws of a clock, and latches what the next state is to have. A is the comparison machine.
-use Rattle.std.proofs.Common.{◌≡◌, ℕ, zero, suc, Bool, true, false, Some, None, Ok, Err, Option, List, sym, refl, ap, ◌∙◌, subst, arith}
+use Rattle.std.proofs.Common.{is_some, ◌≡◌, ℕ, zero, suc, Bool, true, false, Some, None, Ok, Err, Option, List, sym, refl, ap, ◌∙◌, subst, arith}
 use Rattle.std.specs.Option.{option_map, IsSomeAnd}
 use Rattle.card.specs.declared.cell.Cell.{Cell}
 use Rattle.card.specs.declared.cell.Cell.TheVariants.{Absent, Fixed, Open}
@@ -39,7 +39,8 @@ use Rattle.clocked.specs.ClockLaws.{fetched_as, under_way, class_under_way, PutI
 use Rattle.clocked.specs.Comparison.{compared_by}
 use Rattle.clocked.specs.Control.{named, reads_at, request_of, stage_of}
 use Rattle.clocked.specs.Processor.{storing, registers_of}
-use Rattle.clocked.specs.Runs.{config}
+use Rattle.clocked.specs.Refusals.{is_fetch0}
+use Rattle.clocked.specs.Runs.{outcome_by, config}
 use Rattle.clocked.specs.Table.{Move, on_to, decodes, executes, latches, branches, skipping, completes, row_of}
 use Rattle.clocked.proofs.Executing.{fault_leaves}
 use Rattle.clocked.proofs.Invariant.{At, Mid, Busy, class_in, taken_in, end_in}
@@ -49,6 +50,8 @@ use Rattle.clocked.proofs.Polling.{Outcome, waits, ends, polled}
 pub record Obeys (A : State) (k : Control) (t : Answer) (p : Processor) (c : Meaning) (q : Processor) (d : Meaning) : Type 0 where
   pub laws : ClockLaws A (named k) t (config p c) (config q d)
   pub latched : Latched q.control (compared_by t A)
+  pub rests : is_fetch0 q.control ≡ is_some (outcome_by t)
+  pub patience : d.patience ≡ c.patience
 
 module _ (A : State) (k : Control) (t u : Answer) (p : Processor) (c : Meaning) (q r : Processor) (d e : Meaning) where
   obeys_as : t ≡ u → q ≡ r → d ≡ e → Obeys A k u p c r e → Obeys A k t p c q d
@@ -92,11 +95,11 @@ polls_from (Some x) take s a p c t q d h = polls_at x.waits x.request take s a p
 -- A state that polls, by the laws of a clock that waits and by what it does with the end of the transfer.
 module _ (A : State) (n w : ℕ) (k : Control) (p : Processor) (c : Meaning) (t : Answer) (q : Processor) (d : Meaning)
     (b : Request) (r z : ℕ) (take : ℕ → Move) (s : Stage) (a : ℕ) where
-  polling : p.control ≡ k → Busy A n w p c b r z → PollsFrom c.transfer take s a p c t q d → Latched k A →
+  polling : p.control ≡ k → is_fetch0 k ≡ false → Busy A n w p c b r z → PollsFrom c.transfer take s a p c t q d → Latched k A →
       ((v : ℕ) → PollsTransfer c.transfer (waiting b v c).transfer → ClockLaws A (named k) Waiting (config p c) (config p (waiting b v c))) →
       (Ends (end_in b c.map) take s a p t q → d ≡ finished b c → PollsTransfer c.transfer (finished b c).transfer → Obeys A k t p c q d) →
       Obeys A k t p c q d
-  polling is at did latched again over =
+  polling is between at did latched again over =
       by_outcome (waits_left c.transfer) (polled n w r z b take s a p c t q d at.busy at.count did)
     where
       goes : (e : Meaning) → d ≡ e → PollsTransfer c.transfer e.transfer
@@ -105,7 +108,7 @@ module _ (A : State) (n w : ℕ) (k : Control) (p : Processor) (c : Meaning) (t 
       by_outcome : (x : ℕ) → Outcome n w r z b take s a p c t q d x → Obeys A k t p c q d
       by_outcome x (waits v wait same after count) =
           obeys_as A k t Waiting p c q p d (waiting b v c) wait same after
-          (record { laws = again v (goes (waiting b v c) after); latched = subst (λ (y : Control). Latched y A) (sym is) latched })
+          (record { laws = again v (goes (waiting b v c) after); latched = subst (λ (y : Control). Latched y A) (sym is) latched; rests = ap is_fetch0 is ∙ between; patience = refl })
       by_outcome x (ends h after count) = over h after (goes (finished b c) after)
 
 module _ (A : State) (p : Processor) (c : Meaning) (t : Answer) (q : Processor) (d : Meaning) where
@@ -115,6 +118,8 @@ module _ (A : State) (p : Processor) (c : Meaning) (t : Answer) (q : Processor) 
       (record {
         laws = record { registers = refl; cells = refl; flags = refl; pc = refl; transfer = refl; follows = (0, omega arith, refl) };
         latched = tt;
+        rests = refl;
+        patience = refl;
       })
 
   obeys_fetch1 : c.transfer ≡ None → Did (row_of Fetch1 p) p c t q d → Obeys A Fetch1 t p c q d
@@ -123,6 +128,8 @@ module _ (A : State) (p : Processor) (c : Meaning) (t : Answer) (q : Processor) 
       (record {
         laws = record { registers = refl; cells = refl; flags = refl; pc = refl; transfer = (idle, refl); follows = (0, omega arith, refl) };
         latched = tt;
+        rests = refl;
+        patience = refl;
       })
 
   fetch2_ends : (e : End) → end_of Read (c.map p.start) ≡ e → Mid A p c →
@@ -133,6 +140,8 @@ module _ (A : State) (p : Processor) (c : Meaning) (t : Answer) (q : Processor) 
       (record {
         laws = record { registers = refl; cells = refl; flags = refl; pc = refl; transfer = over; follows = (0, omega arith, refl) };
         latched = ap under_way mid.0 ∙ ap fetched_as is;
+        rests = refl;
+        patience = refl;
       })
   fetch2_ends (Err why) is mid h after over =
       obeys_as A Fetch2 t (Ended Halted) p c q (halting stage.Fetch p.start why p) d (finished (reads_at p.start) c) h.0 h.1 after
@@ -146,11 +155,13 @@ module _ (A : State) (p : Processor) (c : Meaning) (t : Answer) (q : Processor) 
           follows = (2, omega arith, refl);
         };
         latched = tt;
+        rests = refl;
+        patience = refl;
       })
 
   obeys_fetch2 : (n w : ℕ) → p.control ≡ Fetch2 → At Fetch2 A n w p c → Did (row_of Fetch2 p) p c t q d → Obeys A Fetch2 t p c q d
   obeys_fetch2 n w is at did =
-      polling A n w Fetch2 p c t q d (reads_at p.start) 0 2 (λ v. on_to (Decode (instruction_of v)) p) stage.Fetch p.start is at.0 did tt
+      polling A n w Fetch2 p c t q d (reads_at p.start) 0 2 (λ v. on_to (Decode (instruction_of v)) p) stage.Fetch p.start is refl at.0 did tt
       (λ v less. record {
         registers = refl;
         cells = refl;
@@ -168,6 +179,8 @@ module _ (A : State) (i : Instruction) (p : Processor) (c : Meaning) (under : un
       record {
         laws = record { registers = refl; cells = refl; flags = refl; pc = refl; transfer = refl; follows = (1, omega arith, refl) };
         latched = (under, subst (λ (y : Class). Executes y i (immediate_of i) A) (sym class) h);
+        rests = refl;
+        patience = refl;
       }
 
   to_displacement : (x : Class) → class_of i.opcode ≡ x → IsLong x → Obeys A (Decode i) On p c (going (DispFetch0 i) p) c
@@ -175,6 +188,8 @@ module _ (A : State) (i : Instruction) (p : Processor) (c : Meaning) (under : un
       record {
         laws = record { registers = refl; cells = refl; flags = refl; pc = refl; transfer = refl; follows = (0, omega arith, refl) };
         latched = (under, subst IsLong (sym class) h);
+        rests = refl;
+        patience = refl;
       }
 
   to_done : Obeys A (Decode i) (Ended Done) p c (going Fetch0 p) c
@@ -182,6 +197,8 @@ module _ (A : State) (i : Instruction) (p : Processor) (c : Meaning) (under : un
       record {
         laws = record { registers = refl; cells = refl; flags = refl; pc = refl; transfer = refl; follows = (2, omega arith, refl) };
         latched = tt;
+        rests = refl;
+        patience = refl;
       }
 
   decoded : (x : Class) (taken : Bool) → class_of i.opcode ≡ x → Obeys A (Decode i) (decodes x taken i p).0 p c (decodes x taken i p).1 c
@@ -204,6 +221,8 @@ module _ (A : State) (i : Instruction) (p : Processor) (c : Meaning) (under : un
       record {
         laws = record { registers = refl; cells = refl; flags = refl; pc = refl; transfer = refl; follows = (3, omega arith, refl) };
         latched = tt;
+        rests = refl;
+        patience = refl;
       }
 
   module _ (t : Answer) (q : Processor) (d : Meaning) where
@@ -218,6 +237,8 @@ module _ (A : State) (i : Instruction) (p : Processor) (c : Meaning) (under : un
         (record {
           laws = record { registers = refl; cells = refl; flags = refl; pc = refl; transfer = refl; follows = (0, omega arith, refl) };
           latched = (under, long);
+          rests = refl;
+          patience = refl;
         })
 
     obeys_disp1 : IsLong (class_of i.opcode) → c.transfer ≡ None → Did (row_of (DispFetch1 i) p) p c t q d → Obeys A (DispFetch1 i) t p c q d
@@ -227,6 +248,8 @@ module _ (A : State) (i : Instruction) (p : Processor) (c : Meaning) (under : un
         (record {
           laws = record { registers = refl; cells = refl; flags = refl; pc = refl; transfer = (idle, refl); follows = (0, omega arith, refl) };
           latched = (under, long);
+          rests = refl;
+          patience = refl;
         })
 
     given_long : (x : Class) (v : ℕ) → IsLong x → end_of Read (A.map (plus A.pc 1)) ≡ Ok v → Executes x i v A
@@ -244,6 +267,8 @@ module _ (A : State) (i : Instruction) (p : Processor) (c : Meaning) (under : un
         (record {
           laws = record { registers = refl; cells = refl; flags = refl; pc = refl; transfer = over; follows = (0, omega arith, refl) };
           latched = (under, given_long (class_of i.opcode) v long (ap (λ (s : State). end_of Read (s.map (plus s.pc 1))) mid.0 ∙ is));
+          rests = refl;
+          patience = refl;
         })
     disp2_ends (Err why) is mid long h after over =
         obeys_as A (DispFetch2 i) t (Ended Halted) p c q (halting stage.Displacement (plus p.start 1) why p) d
@@ -258,13 +283,15 @@ module _ (A : State) (i : Instruction) (p : Processor) (c : Meaning) (under : un
             follows = (2, omega arith, refl);
           };
           latched = tt;
+          rests = refl;
+          patience = refl;
         })
 
     obeys_disp2 : (n w : ℕ) → p.control ≡ DispFetch2 i → At (DispFetch2 i) A n w p c → IsLong (class_of i.opcode) →
         Did (row_of (DispFetch2 i) p) p c t q d → Obeys A (DispFetch2 i) t p c q d
     obeys_disp2 n w is at long did =
         polling A n w (DispFetch2 i) p c t q d (reads_at (plus p.start 1)) 0 6 (λ v. on_to (Execute0 i v) p) stage.Displacement
-        (plus p.start 1) is at.0 did (under, long)
+        (plus p.start 1) is refl at.0 did (under, long)
         (λ v less. record {
           registers = refl;
           cells = refl;
@@ -291,6 +318,8 @@ module _ (A : State) (i : Instruction) (p : Processor) (c : Meaning) (under : un
             follows = (1, omega arith, ap (λ (y : Control). (Ended Done, named y)) (sym boundary));
           };
           latched = subst (λ (y : Control). Latched y (compared_by (Ended Done) A)) (sym boundary) tt;
+          rests = ap is_fetch0 boundary;
+          patience = refl;
         }
 
     latched_as : (x : Class) (r : Result) → class_of i.opcode ≡ x →
@@ -308,6 +337,8 @@ module _ (A : State) (i : Instruction) (p : Processor) (c : Meaning) (under : un
         record {
           laws = record { registers = g.0; cells = g.1; flags = g.2; pc = g.3; transfer = refl; follows = (0, omega arith, refl) };
           latched = of;
+          rests = refl;
+          patience = refl;
         }
 
     branched : (x : Class) (taken : Bool) (f : Form) (target : ℕ) → class_of i.opcode ≡ x →
@@ -365,6 +396,8 @@ module _ (A : State) (a : Access) (p : Processor) (c : Meaning) (t : Answer) (q 
       (record {
         laws = record { registers = refl; cells = refl; flags = refl; pc = refl; transfer = (idle, refl); follows = (0, omega arith, refl) };
         latched = of;
+        rests = refl;
+        patience = refl;
       })
 
 module _ (A : State) (p : Processor) (c : Meaning) (t : Answer) (q : Processor) (d : Meaning) (mid : Mid A p c) where
@@ -383,6 +416,8 @@ module _ (A : State) (p : Processor) (c : Meaning) (t : Answer) (q : Processor) 
           follows = (2, omega arith, refl);
         };
         latched = tt;
+        rests = refl;
+        patience = refl;
       })
 
   execute2_ends : (a : Access) (e : End) → AccessOf a A → end_in (request_of a) c.map ≡ e →
@@ -401,6 +436,8 @@ module _ (A : State) (p : Processor) (c : Meaning) (t : Answer) (q : Processor) 
       (record {
         laws = record { registers = g.0; cells = g.1; flags = g.2; pc = g.3; transfer = over; follows = (1, omega arith, refl) };
         latched = tt;
+        rests = refl;
+        patience = refl;
       })
   execute2_ends (access.Store x v) (Ok y) of is h after over =
       let m : Map = (finished (request_of (access.Store x v)) c).map in
@@ -415,13 +452,15 @@ module _ (A : State) (p : Processor) (c : Meaning) (t : Answer) (q : Processor) 
       (record {
         laws = record { registers = g.0; cells = g.1; flags = g.2; pc = g.3; transfer = over; follows = (1, omega arith, refl) };
         latched = tt;
+        rests = refl;
+        patience = refl;
       })
   execute2_ends a (Err why) of is h after over = halts2 a why is h after over
 
   obeys_execute2 : (a : Access) (n w : ℕ) → p.control ≡ Execute2 a → At (Execute2 a) A n w p c → AccessOf a A →
       Did (row_of (Execute2 a) p) p c t q d → Obeys A (Execute2 a) t p c q d
   obeys_execute2 a n w is at of did =
-      polling A n w (Execute2 a) p c t q d (request_of a) 1 _ (completes a p) (stage_of a) (request_of a).address is at.0 did of
+      polling A n w (Execute2 a) p c t q d (request_of a) 1 _ (completes a p) (stage_of a) (request_of a).address is refl at.0 did of
       (λ v less. record {
         registers = refl;
         cells = refl;

@@ -14,12 +14,12 @@ use Rattle.clocked.specs.declared.processor.Processor.{Processor}
 use Rattle.clocked.specs.declared.tick.Answer.{Answer}
 use Rattle.clocked.specs.declared.tick.Answer.TheVariants.{On, Waiting, Ended}
 use Rattle.clocked.specs.Calls.{PoweredAs, waits_left}
-use Rattle.clocked.specs.Refusals.{clock_refusal, draw_refusal, fits}
-use Rattle.clocked.specs.Comparison.{compared, compared_by, clocks_since, waits_since, key_out, out_after}
+use Rattle.clocked.specs.Refusals.{clock_refusal, draw_refusal, fits, is_at_rest}
+use Rattle.clocked.specs.Comparison.{compared, compared_by, clocks_since, waits_since, key_out, out_after, at_rest, rest_after}
 use Rattle.clocked.specs.Entries.{KeyFits}
 use Rattle.clocked.specs.Changes.{written_back, locking}
 use Rattle.clocked.specs.Processor.{fresh}
-use Rattle.clocked.specs.Promise.{Promise, Promised, Agreement, Timing, Refusing, Keyed, Lawful, Running, AreClocks, some_ends}
+use Rattle.clocked.specs.Promise.{Promise, Promised, Agreement, Timing, Refusing, Keyed, Resting, LawfulClock, Running, AreClocks, some_ends}
 use Rattle.clocked.specs.Runs.{Config, outcome_by, outcome_of, Event, clocked, reset, drawn, set, given, Entry, events, Run, none, more, Made, MadeBy}
 use Rattle.clocked.proofs.Invariant.{At, Inv, clocks_left, μ}
 use Rattle.clocked.proofs.Answering.{answers}
@@ -62,19 +62,27 @@ fitting (given k r) b a h = tt
 
 -- The invariant holds along a run, compared with the machine that began in the state s with n clocks and w waits.
 module _ (start : Config) (s : State) (key : start.processor.locked ≡ false) (at : Inv s 0 0 start.processor start.card)
-    (at_start : Latched start.processor.control s) where
+    (at_start : Latched start.processor.control s) (resting_start : is_at_rest start.processor ≡ true) where
   pub record Along (es : List Entry) (c : Config) : Type 0 where
     pub inv : Inv (compared s (events es)) (clocks_since (events es)) (waits_since es) c.processor c.card
     pub lock : c.processor.locked ≡ key_out (events es)
     pub latched : Latched c.processor.control (compared s (events es))
+    pub rests : is_at_rest c.processor ≡ at_rest (events es)
+    pub patience : c.card.patience ≡ start.card.patience
 
   along : {es : List Entry} {c : Config} → Run Made start es c → Along es c
-  along none = record { inv = at; lock = key; latched = at_start }
+  along none = record { inv = at; lock = key; latched = at_start; rests = resting_start; patience = refl }
   along (more e es r m) =
       let h = along r in
       let f = follows _ _ _ e.before.processor e.before.card h.inv e.event e.after m in
       let k = keeps _ _ _ e.before.processor e.before.card h.inv h.latched e.event e.after m in
-      record { inv = f.inv; lock = f.locked ∙ ap (out_after e.event) h.lock; latched = k.latched }
+      record {
+        inv = f.inv;
+        lock = f.locked ∙ ap (out_after e.event) h.lock;
+        latched = k.latched;
+        rests = k.rests ∙ ap (rest_after e.event) h.rests;
+        patience = k.patience ∙ h.patience;
+      }
 
   module _ (e : Entry) (es : List Entry) (r : Run Made start (e ∷ es) e.after) where
     gives : Follows (compared s (events es)) (clocks_since (events es)) (waits_since es) e.before e.event e.after
@@ -97,7 +105,10 @@ module _ (start : Config) (s : State) (key : start.processor.locked ≡ false) (
     refusing : Refusing es e
     refusing = record { refused = gives.refused; unchanged = gives.unchanged }
 
-    lawful : Lawful s es e
+    resting : Resting start es e
+    resting = let h = along r in record { rests = h.rests; patience = h.patience }
+
+    lawful : LawfulClock s es e
     lawful =
         let h = along (before r).0 in
         (keeps _ _ _ e.before.processor e.before.card h.inv h.latched e.event e.after (before r).1).laws
@@ -225,12 +236,13 @@ holds a c =
     let first : State = powered_up a c.map in
     record {
       starts = record { boundary = refl; running = record { unhalted = refl; unlocked = refl }; idle = refl; agrees = refl };
-      agreement = agreement start first refl (start_at a c) tt;
-      timing = timing start first refl (start_at a c) tt;
-      refusing = refusing start first refl (start_at a c) tt;
-      keyed = keyed start first refl (start_at a c) tt;
-      lawful = lawful start first refl (start_at a c) tt;
-      progress = λ b es r runs d fs. progress b _ _ _ (along start first refl (start_at a c) tt r).inv runs d fs;
+      agreement = agreement start first refl (start_at a c) tt refl;
+      timing = timing start first refl (start_at a c) tt refl;
+      refusing = refusing start first refl (start_at a c) tt refl;
+      keyed = keyed start first refl (start_at a c) tt refl;
+      resting = resting start first refl (start_at a c) tt refl;
+      lawful = lawful start first refl (start_at a c) tt refl;
+      progress = λ b es r runs d fs. progress b _ _ _ (along start first refl (start_at a c) tt refl r).inv runs d fs;
       answering = λ c es r x. answers c x;
     }
 

@@ -1,9 +1,9 @@
 -- The comparison machine, and what else is told of a run by its calls: the clocks and waits of the instruction under way,
--- and whether the key is out.
+-- whether the key is out, and whether the axis is at rest.
 -- A reader must believe: the comparison machine is fed calls with their arguments and answers, and nothing else. It does
 -- one instruction at each clock that ends one, sets PC to 0 and ends its fault at an accepted reset, and stores a word at
 -- an accepted set.
-use Rattle.std.specs.Prelude.{ℕ, ◌+◌, Bool, true, false, List, [], ◌∷◌, Some, None, Ok, Err, Option}
+use Rattle.std.specs.Prelude.{ℕ, ◌+◌, Bool, true, false, List, [], ◌∷◌, Some, None, Ok, Err, Option, is_some}
 use Rattle.card.specs.declared.transfer.Direction.TheVariants.{Read}
 use Rattle.card.specs.declared.transfer.Transfer.{Transfer}
 use Rattle.card.specs.Ends.{End, end_of}
@@ -19,7 +19,7 @@ use Rattle.machine.specs.State.{State, restarted}
 use Rattle.machine.specs.Step.{step}
 use Rattle.clocked.specs.declared.tick.Answer.{Answer}
 use Rattle.clocked.specs.declared.tick.Answer.TheVariants.{On, Waiting, Ended}
-use Rattle.clocked.specs.Runs.{Event, clocked, reset, drawn, set, given, Entry}
+use Rattle.clocked.specs.Runs.{outcome_by, Event, clocked, reset, drawn, set, given, Entry}
 
 -- The state with a word in a register.
 abbrev pub with_register : ℕ → ℕ → State → State
@@ -117,3 +117,18 @@ out_after (given k (Err e)) out = out
 abbrev pub key_out : List Event → Bool
 key_out [] = false
 key_out (e ∷ es) = out_after e (key_out es)
+
+-- Whether the axis is at rest, at the boundary or halted: it is at the start, a clock leaves it so that ended an instruction, and
+-- so does an accepted reset. No other call, and no refused one, changes it.
+abbrev pub rest_after : Event → Bool → Bool
+rest_after (clocked (Ok t)) rest = is_some (outcome_by t.answer)
+rest_after (clocked (Err e)) rest = rest
+rest_after (reset (Ok u)) rest = true
+rest_after (reset (Err e)) rest = rest
+rest_after (drawn r) rest = rest
+rest_after (set k n w r) rest = rest
+rest_after (given k r) rest = rest
+
+abbrev pub at_rest : List Event → Bool
+at_rest [] = true
+at_rest (e ∷ es) = rest_after e (at_rest es)

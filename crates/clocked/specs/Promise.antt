@@ -11,7 +11,7 @@ use Rattle.clocked.specs.declared.processor.Processor.{Processor}
 use Rattle.clocked.specs.ClockLaws.{KeepsClockLaws}
 use Rattle.clocked.specs.Entries.{Answers, DidRow, Took, refusal_of, refusal_due, Unchanged, KeyStays, KeyFits}
 use Rattle.clocked.specs.Refusals.{is_at_rest}
-use Rattle.clocked.specs.Comparison.{compared, clocks_since, begun_in, waits_since, key_out}
+use Rattle.clocked.specs.Comparison.{compared, clocks_since, begun_in, waits_since, key_out, at_rest}
 use Rattle.clocked.specs.Processor.{shown}
 use Rattle.clocked.specs.Runs.{Config, Call, call_of, outcome_of, tick_of, Event, clocked, reset, drawn, set, given, Entry, events, Run, Made}
 
@@ -43,9 +43,14 @@ pub record Keyed (es : List Entry) (e : Entry) : Type 0 where
   pub stays : KeyStays e.event
   pub locked : e.after.processor.locked ≡ key_out (events (e ∷ es))
 
+-- The axis is at rest exactly when its calls tell so, and the patience is that of the start.
+pub record Resting (start : Config) (es : List Entry) (e : Entry) : Type 0 where
+  pub rests : is_at_rest e.after.processor ≡ at_rest (events (e ∷ es))
+  pub patience : e.after.card.patience ≡ start.card.patience
+
 -- An accepted clock keeps the laws of a clock, by the instruction that the comparison machine does next.
-abbrev pub Lawful : State → List Entry → Entry → Type 0
-Lawful first es e = KeepsClockLaws (tick_of e.event) (compared first (events es)) e.before e.after
+abbrev pub LawfulClock : State → List Entry → Entry → Type 0
+LawfulClock first es e = KeepsClockLaws (tick_of e.event) (compared first (events es)) e.before e.after
 
 -- What holds of every entry of every run of M from the configuration `start`, with the entries before it.
 abbrev pub Always : (Entry → Type 0) → Config → (List Entry → Entry → Type 0) → Type 0
@@ -99,7 +104,8 @@ pub record Promise (M : Entry → Type 0) (first : State) (start : Config) : Typ
   pub timing : Always M start (Timing first)
   pub refusing : Always M start Refusing
   pub keyed : Always M start Keyed
-  pub lawful : Always M start (Lawful first)
+  pub resting : Always M start (Resting start)
+  pub lawful : Always M start (LawfulClock first)
   pub progress : Progress M start
   pub answering : Answering M start
 
