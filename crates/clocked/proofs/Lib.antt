@@ -16,4 +16,5 @@ mod Obeying
 mod Keeping
 mod Determining
 mod Theorem
+mod RefutedRuns
 mod Refuted

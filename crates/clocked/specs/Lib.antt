@@ -11,4 +11,5 @@ pub mod Determined
 pub mod Entries
 pub mod ClockLaws
 pub mod Promise
+pub mod WrongMachines
 pub mod Wrong

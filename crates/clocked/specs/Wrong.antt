@@ -1,119 +1,76 @@
--- Seven wrong machines, and that each of them breaks the promise: what the promise refuses.
--- A reader must believe: nothing; this is shown of the definition of the promise. A machine is given by its entries, and the
--- promise is about all runs that they make: a machine that can do more than one of these breaks it by the same runs.
-use Rattle.std.specs.Prelude.{None, Ok, Err}
+-- That every machine of some wrong kinds breaks the promise: what the promise refuses.
+-- A reader must believe: nothing; this is shown of the definition of the promise.
+use Rattle.std.specs.Prelude.{◌≡◌, ℕ, ◌+◌, Some, None}
 use Rattle.refusal.specs.declared.Refusal.{Refusal}
-use Rattle.refusal.specs.declared.Refusal.TheVariants as refused
-use Rattle.card.specs.declared.cell.Cell.TheVariants.{Open}
-use Rattle.card.specs.Ends.{Map}
-use Rattle.card.specs.Meaning.{idle, mapped}
-use Rattle.machine.specs.declared.axis.Axis.TheVariants.{One}
-use Rattle.machine.specs.declared.machine.Outcome.TheVariants.{Done, Halted}
-use Rattle.machine.specs.State.{State, powered_up}
+use Rattle.machine.specs.declared.machine.Outcome.TheVariants.{Halted}
+use Rattle.machine.specs.State.{State, restarted}
 use Rattle.machine.specs.Step.{step}
-use Rattle.clocked.specs.declared.control.Control.{Control}
-use Rattle.clocked.specs.declared.control.Control.TheVariants as control
-use Rattle.clocked.specs.declared.control.ControlState.{ControlState}
-use Rattle.clocked.specs.declared.control.ControlState.TheVariants.{Fetch0, Fetch1}
-use Rattle.clocked.specs.declared.processor.Processor.{Processor}
-use Rattle.clocked.specs.declared.tick.Answer.{Answer}
-use Rattle.clocked.specs.declared.tick.Answer.TheVariants.{On, Waiting, Ended}
+use Rattle.clocked.specs.declared.control.ControlState.TheVariants.{Decode}
+use Rattle.clocked.specs.Comparison.{count_of}
 use Rattle.clocked.specs.Control.{named}
-use Rattle.clocked.specs.Changes.{going, noting, written_back, restarting}
-use Rattle.clocked.specs.Processor.{shown, fresh}
 use Rattle.clocked.specs.Promise.{Agreement, Timing, Counted, Refusing, Always, Starts, Progress}
-use Rattle.clocked.specs.Runs.{Config, Event, clocked, reset, Entry}
+use Rattle.clocked.specs.Runs.{Config, call_of, to_reset, Entry}
+use Rattle.clocked.specs.WrongMachines.{AnyMachine, Makes, Kind, IsOf, NeverEnds, WorksAtOnce, WaitsUnasked, MakesUpItsCount, HaltsBefore, NeverUsesTheCard, StaysInFetch0, RefusesEveryClock}
 
--- A clock that answers a state and an answer.
-abbrev pub ticks : ControlState → Answer → Event
-ticks s t = clocked (Ok (record { state = s; answer = t }))
+-- A part of the promise, of a machine that starts at a configuration, compared from a state on.
+abbrev pub Part : Type 1
+Part = (Entry → Type 0) → State → Config → Type 0
 
-abbrev pub entry : Config → Event → Config → Entry
-entry b e a = record { before = b; event = e; after = a }
+abbrev pub Agrees : Part
+Agrees M first start = Always M start (Agreement first)
 
-abbrev pub with : Config → Processor → Config
-with c p = record { processor = p; card = c.card }
+abbrev pub IsInTime : Part
+IsInTime M first start = Always M start (Timing first)
 
--- A processor with the registers, PC, flags and fault of a state, in fetch_1.
-abbrev pub holding : State → Processor → Processor
-holding s p =
-    record p {
-      registers = record { words = s.registers };
-      pending = None;
-      flags = s.flags;
-      pc = s.pc;
-      start = p.pc;
-      control = control.Fetch1;
-      fault = s.fault;
-    }
+abbrev pub IsCounted : Part
+IsCounted M first start = Always M start (Counted first)
 
--- The configuration with the state of an axis and its memory, in fetch_1.
-abbrev pub worked : State → Config → Config
-worked s c = record { processor = holding s c.processor; card = mapped s.map c.card }
+abbrev pub IsRefusing : Part
+IsRefusing M first start = Always M start Refusing
 
--- Does all the work of an instruction in fetch_0, and then idles from state to state; its reset is as it should be.
-pub data WorksAtOnce : Entry → Type 0 where
-  works : (c : Config) → WorksAtOnce (entry c (ticks Fetch0 On) (worked (step (shown c.processor c.card.map)).1 c))
-  idles : (c : Config) (k : Control) → WorksAtOnce (entry c (ticks (named c.processor.control) On) (with c (going k c.processor)))
-  resets : (c : Config) →
-      WorksAtOnce (entry c (reset (Ok tt)) (record { processor = restarting (written_back c.processor); card = idle c.card }))
+abbrev pub Progresses : Part
+Progresses M first start = Progress M start
 
--- Answers waiting where it asked nothing.
-pub data WaitsUnasked : Entry → Type 0 where
-  waits : (c : Config) → WaitsUnasked (entry c (ticks (named c.processor.control) Waiting) c)
+-- Agreement at resets in decode alone.
+pub record IsResetInDecode (e : Entry) : Type 0 where
+  pub of_call : call_of e.event ≡ to_reset
+  pub state : named e.before.processor.control ≡ Decode
 
--- Makes up its count: every instruction is done after one clock.
-pub data MakesUpItsCount : Entry → Type 0 where
-  finishes : (c : Config) →
-      MakesUpItsCount (entry c (ticks (named c.processor.control) (Ended Done)) (with c (going control.Fetch0 c.processor)))
+abbrev pub AgreesInDecode : Part
+AgreesInDecode M first start = Always M start (λ es e. IsResetInDecode e → Agreement first es e)
 
--- Halts before any transfer, with whatever it leaves.
-pub data HaltsBefore : Entry → Type 0 where
-  halts : (c d : Config) → HaltsBefore (entry c (ticks (named c.processor.control) (Ended Halted)) d)
+-- The part P fails of every machine of the kind K, wherever it starts in a state of which S holds.
+abbrev pub FailsFrom : (State → Type 0) → Kind → Part → Type 0
+FailsFrom S K P = (m : AnyMachine) (first : State) (start : Config) → Starts first start → S first → IsOf K m start → P (Makes m) first start → ⊥
 
--- Never uses the card: it goes from fetch_0 to fetch_1 and on, with the card as it was.
-pub data NeverUsesTheCard : Entry → Type 0 where
-  from_fetch0 : (c : Config) → NeverUsesTheCard (entry c (ticks Fetch0 On) (with c (noting control.Fetch1 (written_back c.processor))))
-  from_fetch1 : (c : Config) (q : Processor) → NeverUsesTheCard (entry c (ticks Fetch1 On) (with c q))
+abbrev pub Fails : Kind → Part → Type 0
+Fails K P = FailsFrom (λ s. Unit {0}) K P
 
--- Stays in fetch_0 and answers on.
-pub data StaysInFetch0 : Entry → Type 0 where
-  stays : (c : Config) → StaysInFetch0 (entry c (ticks Fetch0 On) c)
+-- The first instruction meets no fault, and changes more than PC.
+pub record Changes (s : State) : Type 0 where
+  pub unhalted : (step s).1.fault ≡ None
+  pub more : restarted (step s).1 ≡ restarted s → ⊥
 
--- Refuses every clock with the refusal e.
-pub data RefusesEveryClock : Refusal → Entry → Type 0 where
-  refuses : (e : Refusal) (c : Config) → RefusesEveryClock e (entry c (clocked (Err e)) c)
+-- It does not halt; it takes another number of clocks than n.
+abbrev pub DoesNotHalt : State → Type 0
+DoesNotHalt s = (step s).0 ≡ Some Halted → ⊥
 
--- A part of the promise fails: it does not hold of the machine, wherever it starts.
-abbrev pub Fails : (State → Config → Type 0) → Type 0
-Fails P = (first : State) (start : Config) → Starts first start → P first start → ⊥
+abbrev pub TakesOther : ℕ → State → Type 0
+TakesOther n s = count_of s ≡ n → ⊥
 
-abbrev pub FailsTiming : (Entry → Type 0) → Type 0
-FailsTiming M = Fails (λ s c. Always M c (Timing s))
+-- An axis that starts in a state of which S holds.
+pub record Start (S : State → Type 0) : Type 0 where
+  pub first : State
+  pub start : Config
+  pub starts : Starts first start
+  pub holds : S first
 
-abbrev pub FailsProgress : (Entry → Type 0) → Type 0
-FailsProgress M = Fails (λ s c. Progress M c)
-
--- A memory in which every word adds 1 to r0 and puts the sum into r5, and the axis powered up on it.
-abbrev pub sums : Map
-sums a = Open 0x10050001
-
-abbrev pub summing : Config
-summing = record { processor = fresh One; card = record { map = sums; transfer = None; patience = 0 } }
-
--- Agreement fails on that memory, where an instruction is done without a fault.
-abbrev pub FailsAgreement : (Entry → Type 0) → Type 0
-FailsAgreement M = Always M summing (Agreement (powered_up One sums)) → ⊥
-
--- Each machine, and the parts of the promise that fail of it, each part by itself.
+-- Each kind, and the parts of the promise that fail of it, each part by itself.
 pub record Refuted : Type 0 where
-  -- by a reset in decode
-  pub works : FailsAgreement WorksAtOnce
-  pub waits : FailsTiming WaitsUnasked × FailsProgress WaitsUnasked
-  -- by the count alone
-  pub counts : Fails (λ s c. Always MakesUpItsCount c (Counted s))
-  pub halts : FailsAgreement HaltsBefore × FailsTiming HaltsBefore
-  pub card : FailsTiming NeverUsesTheCard × FailsProgress NeverUsesTheCard
-  pub fetch : FailsTiming StaysInFetch0 × FailsProgress StaysInFetch0
-  pub halted : Fails (λ s c. Always (RefusesEveryClock refused.Halted) c Refusing) × FailsProgress (RefusesEveryClock refused.Halted)
-  pub transfer : Fails (λ s c. Always (RefusesEveryClock refused.Transfer) c Refusing) × FailsProgress (RefusesEveryClock refused.Transfer)
+  pub works : FailsFrom Changes WorksAtOnce AgreesInDecode
+  pub waits : Fails WaitsUnasked IsInTime × Fails WaitsUnasked Progresses
+  pub counts : (n : ℕ) → FailsFrom (TakesOther (n + 1)) (MakesUpItsCount n) IsCounted
+  pub halts : (n : ℕ) → FailsFrom DoesNotHalt (HaltsBefore n) Agrees × Fails (HaltsBefore n) IsInTime
+  pub card : Fails NeverUsesTheCard IsInTime × Fails (NeverEnds NeverUsesTheCard) Progresses
+  pub fetch : Fails StaysInFetch0 IsInTime × Fails StaysInFetch0 Progresses
+  pub refuses : (x : Refusal) → Fails (RefusesEveryClock x) IsRefusing × Fails (RefusesEveryClock x) Progresses

@@ -1,0 +1,120 @@
+-- What a machine is of which something is said, and kinds of wrong machines.
+-- A reader must believe: nothing; this serves to show what the promise refuses. A kind says how the machine's clocks are
+-- wrong. It asks nothing of other calls, save where it says so, so whatever a machine makes of those, it is of the kind.
+use Rattle.std.specs.Prelude.{◌≡◌, ℕ, Bool, true, false, ◌==◌, List, Some, None, Ok, Err, Option}
+use Rattle.refusal.specs.declared.Refusal.{Refusal}
+use Rattle.machine.specs.declared.machine.Outcome.{Outcome}
+use Rattle.machine.specs.declared.machine.Outcome.TheVariants.{Done, Ignored, Halted}
+use Rattle.machine.specs.State.{State}
+use Rattle.machine.specs.Step.{step}
+use Rattle.clocked.specs.declared.control.ControlState.{ControlState}
+use Rattle.clocked.specs.declared.control.ControlState.TheVariants.{Fetch0, Fetch1, Fetch2, Decode}
+use Rattle.clocked.specs.declared.control.Control.TheVariants as control
+use Rattle.clocked.specs.declared.tick.Answer.TheVariants.{On, Waiting, Ended}
+use Rattle.clocked.specs.declared.tick.Tick.{Tick}
+use Rattle.clocked.specs.Comparison.{clocks_since, begun_in}
+use Rattle.clocked.specs.Control.{named}
+use Rattle.clocked.specs.Processor.{shown}
+use Rattle.clocked.specs.Promise.{Always, Answering, Running}
+use Rattle.clocked.specs.Refusals.{clock_refusal}
+use Rattle.clocked.specs.Runs.{Config, Call, call_of, Event, clocked, reset, drawn, set, given, Entry, events, outcome_by, outcome_of, MadeBy}
+
+-- A machine: by a test of the entries that it makes, or by what it answers to a call at a configuration and leaves.
+pub data AnyMachine : Type 0 where
+  tested : (Entry → Bool) → AnyMachine
+  answering : (Config → Call → Event × Config) → AnyMachine
+
+abbrev pub Makes : AnyMachine → Entry → Type 0
+Makes (tested t) e = t e ≡ true
+Makes (answering f) e = f e.before (call_of e.event) ≡ (e.event, e.after)
+
+-- What is asked of an entry, and of the entries before it.
+abbrev pub Kind : Type 1
+Kind = List Entry → Entry → Type 0
+
+-- A machine of a kind, from a start: it answers every call, and each entry of its runs is as the kind asks.
+pub record IsOf (K : Kind) (m : AnyMachine) (start : Config) : Type 0 where
+  pub answers : Answering (Makes m) start
+  pub each : Always (Makes m) start K
+
+-- An accepted clock has T, and a refused one R.
+abbrev pub Clocks : (Tick → Type 0) → (Refusal → Type 0) → Event → Type 0
+Clocks T R (clocked (Ok t)) = T t
+Clocks T R (clocked (Err e)) = R e
+Clocks T R (reset r) = Unit {0}
+Clocks T R (drawn r) = Unit {0}
+Clocks T R (set k n w r) = Unit {0}
+Clocks T R (given k r) = Unit {0}
+
+-- A clock is refused only where some refusal is due; or only where the axis is halted or locked.
+abbrev pub IsDue : Config → Type 0
+IsDue b = clock_refusal b.processor b.card ≡ None → ⊥
+
+abbrev pub Stands : Config → Type 0
+Stands b = Running b → ⊥
+
+-- No instruction ends.
+abbrev pub GoesOn : Event → Type 0
+GoesOn e = outcome_of e ≡ None
+
+abbrev pub NeverEnds : Kind → Kind
+NeverEnds K es e = K es e × GoesOn e.event
+
+-- Does all its work in fetch_0 and then idles, through fetch_1 and fetch_2 to decode; its resets are as they should be.
+pub record GoesTo (k : ControlState) (s : State) (b : Config) (t : Tick) (a : Config) : Type 0 where
+  pub on : t.answer ≡ On
+  pub next : named a.processor.control ≡ k
+  pub shows : shown a.processor a.card.map ≡ s
+  pub lock : a.processor.locked ≡ b.processor.locked
+
+abbrev pub Works : ControlState → Config → Tick → Config → Type 0
+Works Fetch0 b t a = GoesTo Fetch1 (step (shown b.processor b.card.map)).1 b t a
+Works Fetch1 b t a = GoesTo Fetch2 (shown b.processor b.card.map) b t a
+Works Fetch2 b t a = GoesTo Decode (shown b.processor b.card.map) b t a
+Works _ b t a = Unit {0}
+
+abbrev pub WorksIn : Event → Config → Config → Type 0
+WorksIn (reset r) b a = MadeBy (reset r) b a
+WorksIn e b a = Clocks (λ t. Works (named b.processor.control) b t a) (λ r. Stands b) e
+
+abbrev pub WorksAtOnce : Kind
+WorksAtOnce es e = WorksIn e.event e.before e.after
+
+-- Answers every clock waiting, where it asked nothing.
+abbrev pub WaitsUnasked : Kind
+WaitsUnasked es e = Clocks (λ t. t.answer ≡ Waiting) (λ r. IsDue e.before) e.event
+
+-- Makes up its count: n clocks and one more finish an instruction, whichever it is, and its card never makes it wait.
+abbrev pub IsFinish : Option Outcome → Type 0
+IsFinish None = ⊥
+IsFinish (Some Done) = Unit {0}
+IsFinish (Some Ignored) = Unit {0}
+IsFinish (Some Halted) = ⊥
+
+abbrev pub FinishesIf : Bool → Tick → Config → Type 0
+FinishesIf true t a = IsFinish (outcome_by t.answer)
+FinishesIf false t a = (outcome_by t.answer ≡ None) × Running a
+
+abbrev pub MakesUpItsCount : ℕ → Kind
+MakesUpItsCount n es e =
+    Clocks (λ t. FinishesIf (clocks_since (events es) == n) t e.after × (begun_in e ≡ 0)) (λ r. Stands e.before) e.event
+
+-- Halts after n clocks, before any transfer.
+abbrev pub HaltsIf : Bool → Tick → Config → Type 0
+HaltsIf true t a = t.answer ≡ Ended Halted
+HaltsIf false t a = (outcome_by t.answer ≡ None) × Running a × (a.card.transfer ≡ None)
+
+abbrev pub HaltsBefore : ℕ → Kind
+HaltsBefore n es e = Clocks (λ t. HaltsIf (clocks_since (events es) == n) t e.after) (λ r. Stands e.before) e.event
+
+-- Never uses the card: a clock leaves its transfer as it was.
+abbrev pub NeverUsesTheCard : Kind
+NeverUsesTheCard es e = Clocks (λ t. e.after.card.transfer ≡ e.before.card.transfer) (λ r. IsDue e.before) e.event
+
+-- Stays in fetch_0 and answers on.
+abbrev pub StaysInFetch0 : Kind
+StaysInFetch0 es e = Clocks (λ t. (t.answer ≡ On) × (e.after.processor.control ≡ control.Fetch0)) (λ r. IsDue e.before) e.event
+
+-- Refuses every clock with the refusal x.
+abbrev pub RefusesEveryClock : Refusal → Kind
+RefusesEveryClock x es e = Clocks (λ t. ⊥) (λ r. r ≡ x) e.event
