@@ -17,4 +17,5 @@ mod Keeping
 mod Determining
 mod Theorem
 mod RefutedRuns
+mod RefutedKinds
 mod Refuted

@@ -26,7 +26,8 @@ use Rattle.clocked.specs.Promise.{Agreement, Timing, Counted, Refusing, Always, 
 use Rattle.clocked.specs.Runs.{Config, Event, clocked, reset, drawn, set, given, outcome_by, Entry, events, Run, none, more, MadeBy, to_clock, to_reset}
 use Rattle.clocked.specs.Table.{row_of}
 use Rattle.clocked.specs.Wrong.{FailsFrom, Fails, Agrees, AgreesInDecode, IsResetInDecode, IsInTime, IsCounted, IsRefusing, Progresses, Changes, DoesNotHalt, TakesOther, Refuted}
-use Rattle.clocked.specs.WrongMachines.{Makes, Clocks, IsDue, Stands, NeverEnds, GoesOn, GoesTo, Works, WorksAtOnce, WaitsUnasked, IsFinish, FinishesIf, MakesUpItsCount, HaltsIf, HaltsBefore, NeverUsesTheCard, StaysInFetch0, RefusesEveryClock}
+use Rattle.clocked.specs.WrongMachines.{Makes, Clocks, IsDue, IsStopped, NeverEnds, GoesOn, GoesTo, Works, WorksAtOnce, WaitsUnasked, IsFinish, FinishesIf, MakesUpItsCount, HaltsIf, HaltsBefore, NeverUsesTheCard, StaysInFetch0, RefusesEveryClock}
+use Rattle.clocked.proofs.RefutedKinds.{occurs}
 use Rattle.clocked.proofs.RefutedRuns.{entry, Clock, clock_at, reset_at, Ticked, ticked, none_due, Endless, no_progress, GoesBefore, going, Each}
 use Rattle.clocked.proofs.Resting.{running_refusal}
 use Rattle.clocked.proofs.Steps.{some_none}
@@ -177,7 +178,7 @@ module _ (M : Entry → Type 0) (first : State) (start : Config) (at : Starts fi
   -- A clock of a running axis.
   halts_tick : (c : Config) (es : List Entry) → Run M start es c → Running c → Ticked M c (λ t d. HaltsIf (clocks_since (events es) == n) t d)
   halts_tick c es run runs =
-      ticked M start c es (λ t d. HaltsIf (clocks_since (events es) == n) t d) (λ x. Stands c) answers run (λ x stands. stands runs) (λ r d run. each _ _ run)
+      ticked M start c es (λ t d. HaltsIf (clocks_since (events es) == n) t d) (λ x. IsStopped c) answers run (λ x stands. stands runs) (λ r d run. each _ _ run)
 
   halts_second : Always M start (Timing first) → (t : Tick) (c : Config) → M (entry start (clocked (Ok t)) c) → ⊥
   halts_second h t c m =
@@ -241,7 +242,7 @@ module _ (M : Entry → Type 0) (first : State) (start : Config) (at : Starts fi
   counts_tick : (c : Config) (es : List Entry) → Run M start es c → Running c →
       Ticked M c (λ t d. FinishesIf (clocks_since (events es) == n) t d × (begun_in (entry c (clocked (Ok t)) d) ≡ 0))
   counts_tick c es run runs =
-      ticked M start c es (λ t d. FinishesIf (clocks_since (events es) == n) t d × (begun_in (entry c (clocked (Ok t)) d) ≡ 0)) (λ x. Stands c)
+      ticked M start c es (λ t d. FinishesIf (clocks_since (events es) == n) t d × (begun_in (entry c (clocked (Ok t)) d) ≡ 0)) (λ x. IsStopped c)
       answers run (λ x stands. stands runs) (λ r d run. each _ _ run)
 
   counts_goes : GoesBefore M (λ e. begun_in e ≡ 0) first start n
@@ -289,9 +290,9 @@ record Worked (M : Entry → Type 0) (first : State) (start : Config) (k : Contr
 module _ (M : Entry → Type 0) (first : State) (start : Config) (changes : Changes first) (answers : Answering M start) (each : Always M start WorksAtOnce) where
   works_tick : (k : ControlState) (c : Config) (es : List Entry) → Run M start es c → Running c → named c.processor.control ≡ k → Ticked M c (Works k c)
   works_tick k c es run runs state =
-      ticked M start c es (Works k c) (λ x. Stands c) answers run (λ x stands. stands runs) (λ r d run. by r d (each _ _ run))
+      ticked M start c es (Works k c) (λ x. IsStopped c) answers run (λ x stands. stands runs) (λ r d run. by r d (each _ _ run))
     where
-      by : (r : Result Tick Refusal) (d : Config) → WorksAtOnce es (entry c (clocked r) d) → Clocks (λ t. Works k c t d) (λ x. Stands c) (clocked r)
+      by : (r : Result Tick Refusal) (d : Config) → WorksAtOnce es (entry c (clocked r) d) → Clocks (λ t. Works k c t d) (λ x. IsStopped c) (clocked r)
       by (Ok t) d h = subst (λ (k : ControlState). Works k c t d) state h
       by (Err x) d h = h
 
@@ -357,4 +358,5 @@ refuted =
       card = (card_timing, card_progress);
       fetch = (fetch_timing, fetch_progress);
       refuses = λ x. (refuses_refusing x, refuses_progress x);
+      occurs = occurs;
     }

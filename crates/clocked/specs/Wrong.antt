@@ -10,7 +10,7 @@ use Rattle.clocked.specs.Comparison.{count_of}
 use Rattle.clocked.specs.Control.{named}
 use Rattle.clocked.specs.Promise.{Agreement, Timing, Counted, Refusing, Always, Starts, Progress}
 use Rattle.clocked.specs.Runs.{Config, call_of, to_reset, Entry}
-use Rattle.clocked.specs.WrongMachines.{AnyMachine, Makes, Kind, IsOf, NeverEnds, WorksAtOnce, WaitsUnasked, MakesUpItsCount, HaltsBefore, NeverUsesTheCard, StaysInFetch0, RefusesEveryClock}
+use Rattle.clocked.specs.WrongMachines.{AnyMachine, Makes, Kind, IsOf, OthersMade, NeverEnds, WorksAtOnce, WaitsUnasked, MakesUpItsCount, HaltsBefore, NeverUsesTheCard, StaysInFetch0, RefusesEveryClock}
 
 -- A part of the promise, of a machine that starts at a configuration, compared from a state on.
 abbrev pub Part : Type 1
@@ -58,12 +58,30 @@ DoesNotHalt s = (step s).0 ≡ Some Halted → ⊥
 abbrev pub TakesOther : ℕ → State → Type 0
 TakesOther n s = count_of s ≡ n → ⊥
 
--- An axis that starts in a state of which S holds.
-pub record Start (S : State → Type 0) : Type 0 where
+-- An axis starts in a state of which S holds.
+pub record StartsIn (S : State → Type 0) : Type 0 where
   pub first : State
   pub start : Config
   pub starts : Starts first start
   pub holds : S first
+
+-- A machine is of the kind, whatever it starts from, and its calls other than clocks are as they should be.
+pub record Exists (K : Kind) : Type 0 where
+  pub machine : AnyMachine
+  pub is : (start : Config) → IsOf K machine start
+  pub others : (start : Config) → IsOf OthersMade machine start
+
+-- None of what is refuted is empty.
+pub record Occurs : Type 0 where
+  pub start : StartsIn (λ s. Changes s × DoesNotHalt s)
+  pub other : (n : ℕ) → StartsIn (TakesOther n)
+  pub works : Exists WorksAtOnce
+  pub waits : Exists WaitsUnasked
+  pub counts : Exists (MakesUpItsCount 0)
+  pub halts : Exists (HaltsBefore 0)
+  pub card : Exists (NeverEnds NeverUsesTheCard)
+  pub fetch : Exists StaysInFetch0
+  pub refuses : (x : Refusal) → Exists (RefusesEveryClock x)
 
 -- Each kind, and the parts of the promise that fail of it, each part by itself.
 pub record Refuted : Type 0 where
@@ -74,3 +92,4 @@ pub record Refuted : Type 0 where
   pub card : Fails NeverUsesTheCard IsInTime × Fails (NeverEnds NeverUsesTheCard) Progresses
   pub fetch : Fails StaysInFetch0 IsInTime × Fails StaysInFetch0 Progresses
   pub refuses : (x : Refusal) → Fails (RefusesEveryClock x) IsRefusing × Fails (RefusesEveryClock x) Progresses
+  pub occurs : Occurs

@@ -50,8 +50,16 @@ Clocks T R (given k r) = Unit {0}
 abbrev pub IsDue : Config → Type 0
 IsDue b = clock_refusal b.processor b.card ≡ None → ⊥
 
-abbrev pub Stands : Config → Type 0
-Stands b = Running b → ⊥
+abbrev pub IsStopped : Config → Type 0
+IsStopped b = Running b → ⊥
+
+-- Every other call is as it should be.
+abbrev pub OtherMade : Event → Config → Config → Type 0
+OtherMade (clocked r) b a = Unit {0}
+OtherMade x b a = MadeBy x b a
+
+abbrev pub OthersMade : Kind
+OthersMade es e = OtherMade e.event e.before e.after
 
 -- No instruction ends.
 abbrev pub GoesOn : Event → Type 0
@@ -75,7 +83,7 @@ Works _ b t a = Unit {0}
 
 abbrev pub WorksIn : Event → Config → Config → Type 0
 WorksIn (reset r) b a = MadeBy (reset r) b a
-WorksIn e b a = Clocks (λ t. Works (named b.processor.control) b t a) (λ r. Stands b) e
+WorksIn x b a = Clocks (λ t. Works (named b.processor.control) b t a) (λ r. IsStopped b) x
 
 abbrev pub WorksAtOnce : Kind
 WorksAtOnce es e = WorksIn e.event e.before e.after
@@ -97,7 +105,7 @@ FinishesIf false t a = (outcome_by t.answer ≡ None) × Running a
 
 abbrev pub MakesUpItsCount : ℕ → Kind
 MakesUpItsCount n es e =
-    Clocks (λ t. FinishesIf (clocks_since (events es) == n) t e.after × (begun_in e ≡ 0)) (λ r. Stands e.before) e.event
+    Clocks (λ t. FinishesIf (clocks_since (events es) == n) t e.after × (begun_in e ≡ 0)) (λ r. IsStopped e.before) e.event
 
 -- Halts after n clocks, before any transfer.
 abbrev pub HaltsIf : Bool → Tick → Config → Type 0
@@ -105,7 +113,7 @@ HaltsIf true t a = t.answer ≡ Ended Halted
 HaltsIf false t a = (outcome_by t.answer ≡ None) × Running a × (a.card.transfer ≡ None)
 
 abbrev pub HaltsBefore : ℕ → Kind
-HaltsBefore n es e = Clocks (λ t. HaltsIf (clocks_since (events es) == n) t e.after) (λ r. Stands e.before) e.event
+HaltsBefore n es e = Clocks (λ t. HaltsIf (clocks_since (events es) == n) t e.after) (λ r. IsStopped e.before) e.event
 
 -- Never uses the card: a clock leaves its transfer as it was.
 abbrev pub NeverUsesTheCard : Kind
