@@ -18,4 +18,7 @@ mod Determining
 mod Theorem
 mod RefutedRuns
 mod RefutedKinds
+mod RefutedTiming
+mod RefutedCounts
+mod RefutedWork
 mod Refuted

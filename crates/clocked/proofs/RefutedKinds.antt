@@ -24,7 +24,7 @@ use Rattle.clocked.specs.Processor.{shown, fresh}
 use Rattle.clocked.specs.Promise.{Answering, Starts}
 use Rattle.clocked.specs.Runs.{Config, Call, call_of, to_clock, to_reset, to_draw, to_set, to_give_back, Event, clocked, reset, drawn, set, given, Entry, events, outcome_by, Run, none, more, MadeBy}
 use Rattle.clocked.specs.Wrong.{Exists, Occurs, StartsIn, Changes, DoesNotHalt, TakesOther}
-use Rattle.clocked.specs.WrongMachines.{answering, Makes, Kind, Clocks, IsDue, IsStopped, IsFinish, OtherMade, GoesOn, NeverEnds, Works, WorksAtOnce, WorksIn, WaitsUnasked, FinishesIf, MakesUpItsCount, HaltsIf, HaltsBefore, NeverUsesTheCard, StaysInFetch0, RefusesEveryClock}
+use Rattle.clocked.specs.WrongMachines.{by_answer, Makes, Kind, Clocks, IsDue, IsStopped, IsFinish, OtherMade, GoesOn, NeverEnds, Works, WorksAtOnce, WorksIn, WaitsUnasked, FinishesIf, MakesUpItsCount, HaltsIf, HaltsBefore, NeverUsesTheCard, StaysInFetch0, RefusesEveryClock}
 use Rattle.clocked.proofs.Answering.{answers}
 use Rattle.clocked.proofs.Steps.{begun_same}
 
@@ -60,7 +60,7 @@ module _ (g : Config → Result Tick Refusal × Config) where
   does_call c (to_set k n w) = other_call c (to_set k n w)
   does_call c (to_give_back k) = other_call c (to_give_back k)
 
-  does_answer : (start : Config) → Answering (Makes (answering does)) start
+  does_answer : (start : Config) → Answering (Makes (by_answer does)) start
   does_answer start c es run x =
       record {
         entry = record { before = c; event = (does c x).0; after = (does c x).1 };
@@ -90,10 +90,10 @@ module _ (g : Config → Result Tick Refusal × Config) where
   is_other (set k n w r) b a h = h
   is_other (given k r) b a h = h
 
-  exists : (K : Kind) → ((start : Config) (e : Entry) (es : List Entry) → Run (Makes (answering does)) start (e ∷ es) e.after → EntryIs e.event e.before e.after → K es e) → Exists K
+  exists : (K : Kind) → ((start : Config) (e : Entry) (es : List Entry) → Run (Makes (by_answer does)) start (e ∷ es) e.after → EntryIs e.event e.before e.after → K es e) → Exists K
   exists K h =
       record {
-        machine = answering does;
+        machine = by_answer does;
         is = λ start. record {
           answers = does_answer start;
           each = λ e es run. h start e es run (entry_is e.event e.before e.after (last_entry run));
@@ -125,11 +125,11 @@ module _ (g : Config → Result Tick Refusal × Config) where
     after_one (set k n w r) b a h sum z = z
     after_one (given k r) b a h sum z = z
 
-    no_clocks : {start : Config} {es : List Entry} {c : Config} → Run (Makes (answering does)) start es c → clocks_since (events es) ≡ 0
+    no_clocks : {start : Config} {es : List Entry} {c : Config} → Run (Makes (by_answer does)) start es c → clocks_since (events es) ≡ 0
     no_clocks none = refl
     no_clocks (more e es r m) = after_one e.event e.before e.after (entry_is e.event e.before e.after m) (clocks_since (events es)) (no_clocks r)
 
-    before_last : {start : Config} {e : Entry} {es : List Entry} {c : Config} → Run (Makes (answering does)) start (e ∷ es) c → clocks_since (events es) ≡ 0
+    before_last : {start : Config} {e : Entry} {es : List Entry} {c : Config} → Run (Makes (by_answer does)) start (e ∷ es) c → clocks_since (events es) ≡ 0
     before_last (more e es r m) = no_clocks r
 
 abbrev tick : Config → Answer → Tick
@@ -216,7 +216,7 @@ working control.Fetch2 c = (Ok (tick c On), with c (control.Decode (instruction_
 working _ c = (Ok (tick c (Ended Done)), with c control.Fetch0)
 
 works_so : (k : Control) (b : Config) → Clocks (λ t. Works (named k) b t (working k b).1) (λ r. IsStopped b) (clocked (working k b).0)
-works_so control.Fetch0 b = record { on = refl; next = refl; shows = refl; lock = refl }
+works_so control.Fetch0 b = λ unhalted. record { on = refl; next = refl; shows = refl; lock = refl }
 works_so control.Fetch1 b = record { on = refl; next = refl; shows = refl; lock = refl }
 works_so control.Fetch2 b = record { on = refl; next = refl; shows = refl; lock = refl }
 works_so (control.Decode i) b = tt

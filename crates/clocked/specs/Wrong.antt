@@ -1,16 +1,19 @@
 -- That every machine of some wrong kinds breaks the promise: what the promise refuses.
 -- A reader must believe: nothing; this is shown of the definition of the promise.
-use Rattle.std.specs.Prelude.{◌≡◌, ℕ, ◌+◌, Some, None}
+use Rattle.std.specs.Prelude.{◌≡◌, ℕ, ◌+◌, Some, None, Option}
 use Rattle.refusal.specs.declared.Refusal.{Refusal}
-use Rattle.machine.specs.declared.machine.Outcome.TheVariants.{Halted}
+use Rattle.card.specs.declared.transfer.Transfer.{Transfer}
+use Rattle.machine.specs.declared.machine.Outcome.TheVariants.{Done, Ignored, Halted}
 use Rattle.machine.specs.State.{State, restarted}
 use Rattle.machine.specs.Step.{step}
 use Rattle.clocked.specs.declared.control.ControlState.TheVariants.{Decode}
+use Rattle.clocked.specs.declared.tick.Answer.{Answer}
+use Rattle.clocked.specs.declared.tick.Answer.TheVariants.{On, Waiting, Ended}
 use Rattle.clocked.specs.Comparison.{count_of}
 use Rattle.clocked.specs.Control.{named}
 use Rattle.clocked.specs.Promise.{Agreement, Timing, Counted, Refusing, Always, Starts, Progress}
 use Rattle.clocked.specs.Runs.{Config, call_of, to_reset, Entry}
-use Rattle.clocked.specs.WrongMachines.{AnyMachine, Makes, Kind, IsOf, OthersMade, NeverEnds, WorksAtOnce, WaitsUnasked, MakesUpItsCount, HaltsBefore, NeverUsesTheCard, StaysInFetch0, RefusesEveryClock}
+use Rattle.clocked.specs.WrongMachines.{AnyMachine, Makes, Kind, Clocks, IsOf, OthersMade, NeverEnds, WorksAtOnce, WaitsUnasked, MakesUpItsCount, HaltsBefore, NeverUsesTheCard, StaysInFetch0, RefusesEveryClock}
 
 -- A part of the promise, of a machine that starts at a configuration, compared from a state on.
 abbrev pub Part : Type 1
@@ -45,6 +48,17 @@ FailsFrom S K P = (m : AnyMachine) (first : State) (start : Config) → Starts f
 
 abbrev pub Fails : Kind → Part → Type 0
 Fails K P = FailsFrom (λ s. Unit {0}) K P
+
+-- A clock answers waiting, or halted, only where a transfer is in being.
+abbrev pub IsAsked : Answer → Option Transfer → Type 0
+IsAsked On x = Unit {0}
+IsAsked Waiting x = x ≡ None → ⊥
+IsAsked (Ended Done) x = Unit {0}
+IsAsked (Ended Ignored) x = Unit {0}
+IsAsked (Ended Halted) x = x ≡ None → ⊥
+
+abbrev pub Asks : Kind
+Asks es e = Clocks (λ t. IsAsked t.answer e.before.card.transfer) (λ r. Unit {0}) e.event
 
 -- The first instruction meets no fault, and changes more than PC.
 pub record Changes (s : State) : Type 0 where
@@ -86,6 +100,8 @@ pub record Occurs : Type 0 where
 -- Each kind, and the parts of the promise that fail of it, each part by itself.
 pub record Refuted : Type 0 where
   pub works : FailsFrom Changes WorksAtOnce AgreesInDecode
+  -- timing fails even where a machine waits, or halts, unasked but once
+  pub asks : (m : AnyMachine) (first : State) (start : Config) → IsInTime (Makes m) first start → Always (Makes m) start Asks
   pub waits : Fails WaitsUnasked IsInTime × Fails WaitsUnasked Progresses
   pub counts : (n : ℕ) → FailsFrom (TakesOther (n + 1)) (MakesUpItsCount n) IsCounted
   pub halts : (n : ℕ) → FailsFrom DoesNotHalt (HaltsBefore n) Agrees × Fails (HaltsBefore n) IsInTime

@@ -21,12 +21,12 @@ use Rattle.clocked.specs.Runs.{Config, Call, call_of, Event, clocked, reset, dra
 
 -- A machine: by a test of the entries that it makes, or by what it answers to a call at a configuration and leaves.
 pub data AnyMachine : Type 0 where
-  tested : (Entry → Bool) → AnyMachine
-  answering : (Config → Call → Event × Config) → AnyMachine
+  by_test : (Entry → Bool) → AnyMachine
+  by_answer : (Config → Call → Event × Config) → AnyMachine
 
 abbrev pub Makes : AnyMachine → Entry → Type 0
-Makes (tested t) e = t e ≡ true
-Makes (answering f) e = f e.before (call_of e.event) ≡ (e.event, e.after)
+Makes (by_test t) e = t e ≡ true
+Makes (by_answer f) e = f e.before (call_of e.event) ≡ (e.event, e.after)
 
 -- What is asked of an entry, and of the entries before it.
 abbrev pub Kind : Type 1
@@ -76,7 +76,8 @@ pub record GoesTo (k : ControlState) (s : State) (b : Config) (t : Tick) (a : Co
   pub lock : a.processor.locked ≡ b.processor.locked
 
 abbrev pub Works : ControlState → Config → Tick → Config → Type 0
-Works Fetch0 b t a = GoesTo Fetch1 (step (shown b.processor b.card.map)).1 b t a
+Works Fetch0 b t a =
+    (step (shown b.processor b.card.map)).1.fault ≡ None → GoesTo Fetch1 (step (shown b.processor b.card.map)).1 b t a
 Works Fetch1 b t a = GoesTo Fetch2 (shown b.processor b.card.map) b t a
 Works Fetch2 b t a = GoesTo Decode (shown b.processor b.card.map) b t a
 Works _ b t a = Unit {0}
