@@ -17,6 +17,8 @@ mod Keeping
 mod Determining
 mod Theorem
 mod RefutedRuns
+mod RefutedMachine
+mod RefutedCounter
 mod RefutedKinds
 mod RefutedTiming
 mod RefutedCounts

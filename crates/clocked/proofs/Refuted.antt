@@ -10,21 +10,11 @@ use Rattle.clocked.specs.Runs.{Config, Event, clocked, reset, drawn, set, given,
 use Rattle.clocked.specs.Wrong.{Fails, IsRefusing, Progresses, Refuted}
 use Rattle.clocked.specs.WrongMachines.{Makes, Clocks, IsDue, NeverEnds, GoesOn, WaitsUnasked, NeverUsesTheCard, StaysInFetch0, RefusesEveryClock}
 use Rattle.clocked.proofs.RefutedKinds.{occurs}
-use Rattle.clocked.proofs.RefutedRuns.{entry, Clock, clock_at, none_due, Endless, no_progress}
+use Rattle.clocked.proofs.RefutedRuns.{clocks_map, entry, Clock, clock_at, none_due, Endless, no_progress}
 use Rattle.clocked.proofs.Steps.{some_none}
 use Rattle.clocked.proofs.RefutedTiming.{waits_timing, fetch_timing, card_timing, asks}
 use Rattle.clocked.proofs.RefutedCounts.{halts_timing, halts_agreement, counts_broken}
 use Rattle.clocked.proofs.RefutedWork.{works_broken}
-
--- What a refused clock lets a kind say of it.
-clocks_map : (T U : Tick → Type 0) (R S : Refusal → Type 0) → ((t : Tick) → T t → U t) → ((x : Refusal) → R x → S x) →
-    (e : Event) → Clocks T R e → Clocks U S e
-clocks_map T U R S f g (clocked (Ok t)) h = f t h
-clocks_map T U R S f g (clocked (Err x)) h = g x h
-clocks_map T U R S f g (reset r) h = tt
-clocks_map T U R S f g (drawn r) h = tt
-clocks_map T U R S f g (set k n w r) h = tt
-clocks_map T U R S f g (given k r) h = tt
 
 waits_progress : Fails WaitsUnasked Progresses
 waits_progress m first start at s is h =

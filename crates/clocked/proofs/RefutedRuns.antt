@@ -51,6 +51,16 @@ clock_at M c a = as_clock M c a.entry.before a.entry.event a.entry.after a.made 
 pub reset_at : (M : Entry → Type 0) (c : Config) → Answered M c to_reset → ResetOf M c
 reset_at M c a = as_reset M c a.entry.before a.entry.event a.entry.after a.made a.here a.of_call
 
+-- Less is asked of a clock.
+pub clocks_map : (T U : Tick → Type 0) (R S : Refusal → Type 0) → ((t : Tick) → T t → U t) → ((x : Refusal) → R x → S x) →
+    (e : Event) → Clocks T R e → Clocks U S e
+clocks_map T U R S f g (clocked (Ok t)) h = f t h
+clocks_map T U R S f g (clocked (Err x)) h = g x h
+clocks_map T U R S f g (reset r) h = tt
+clocks_map T U R S f g (drawn r) h = tt
+clocks_map T U R S f g (set k n w r) h = tt
+clocks_map T U R S f g (given k r) h = tt
+
 -- An accepted clock of which T holds.
 pub record Ticked (M : Entry → Type 0) (c : Config) (T : Tick → Config → Type 0) : Type 0 where
   pub tick : Tick

@@ -79,10 +79,10 @@ pub record StartsIn (S : State → Type 0) : Type 0 where
   pub starts : Starts first start
   pub holds : S first
 
--- A machine is of the kind, whatever it starts from, and its calls other than clocks are as they should be.
+-- A machine is of the kind wherever it starts, and its calls other than clocks are as they should be.
 pub record Exists (K : Kind) : Type 0 where
   pub machine : AnyMachine
-  pub is : (start : Config) → IsOf K machine start
+  pub is : (first : State) (start : Config) → Starts first start → IsOf K machine start
   pub others : (start : Config) → IsOf OthersMade machine start
 
 -- None of what is refuted is empty.
@@ -91,8 +91,8 @@ pub record Occurs : Type 0 where
   pub other : (n : ℕ) → StartsIn (TakesOther n)
   pub works : Exists WorksAtOnce
   pub waits : Exists WaitsUnasked
-  pub counts : Exists (MakesUpItsCount 0)
-  pub halts : Exists (HaltsBefore 0)
+  pub counts : (n : ℕ) → Exists (MakesUpItsCount n)
+  pub halts : (n : ℕ) → Exists (HaltsBefore n)
   pub card : Exists (NeverEnds NeverUsesTheCard)
   pub fetch : Exists StaysInFetch0
   pub refuses : (x : Refusal) → Exists (RefusesEveryClock x)
