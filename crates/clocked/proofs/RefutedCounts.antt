@@ -14,7 +14,7 @@ use Rattle.clocked.specs.Entries.{Took, Answers}
 use Rattle.clocked.specs.Promise.{Agreement, Timing, Counted, Always, Answering, Starts, Running}
 use Rattle.clocked.specs.Runs.{Config, Event, clocked, reset, drawn, set, given, outcome_by, Entry, events, Run, none, more}
 use Rattle.clocked.specs.Wrong.{FailsFrom, Fails, Agrees, IsInTime, IsCounted, DoesNotHalt, TakesOther}
-use Rattle.clocked.specs.WrongMachines.{Makes, IsStopped, IsFinish, FinishesIf, MakesUpItsCount, HaltsIf, HaltsBefore}
+use Rattle.clocked.specs.WrongMachines.{Makes, IsStopped, Finishes, FinishesIf, MakesUpItsCount, HaltsIf, HaltsBefore}
 use Rattle.clocked.proofs.RefutedRuns.{entry, Ticked, ticked, GoesBefore, going, Each}
 use Rattle.clocked.proofs.Steps.{some_none}
 use Rattle.clocked.proofs.RefutedTiming.{first_row, halted_on, Second, second, second_row}
@@ -33,7 +33,7 @@ module _ (M : Entry → Type 0) (first : State) (start : Config) (at : Starts fi
   -- A clock of a running axis.
   halts_tick : (c : Config) (es : List Entry) → Run M start es c → Running c → Ticked M c (λ t d. HaltsIf (clocks_since (events es) == n) t d)
   halts_tick c es run runs =
-      ticked M start c es (λ t d. HaltsIf (clocks_since (events es) == n) t d) (λ x. IsStopped c) answers run (λ x stands. stands runs) (λ r d run. each _ _ run)
+      ticked M start c es (λ t d. HaltsIf (clocks_since (events es) == n) t d) (λ x. IsStopped c) answers run (λ x stopped. stopped runs) (λ r d run. each _ _ run)
 
   halts_second : Always M start (Timing first) → (t : Tick) (c : Config) → M (entry start (clocked (Ok t)) c) → ⊥
   halts_second h t c m =
@@ -87,7 +87,7 @@ no_waits (e ∷ es) h = ap (λ (n : ℕ). since_after e.event n (waits_since es)
     nothing (given k r) = refl
 
 -- A finish that took its count.
-finish_took : (o : Option Outcome) → IsFinish o → (s : State) (n w : ℕ) → Took o s n w → n + 1 ≡ count_of s + w
+finish_took : (o : Option Outcome) → Finishes o → (s : State) (n w : ℕ) → Took o s n w → n + 1 ≡ count_of s + w
 finish_took None f s n w h = absurd f
 finish_took (Some Done) f s n w h = h
 finish_took (Some Ignored) f s n w h = h
@@ -98,7 +98,7 @@ module _ (M : Entry → Type 0) (first : State) (start : Config) (at : Starts fi
       Ticked M c (λ t d. FinishesIf (clocks_since (events es) == n) t d × (begun_in (entry c (clocked (Ok t)) d) ≡ 0))
   counts_tick c es run runs =
       ticked M start c es (λ t d. FinishesIf (clocks_since (events es) == n) t d × (begun_in (entry c (clocked (Ok t)) d) ≡ 0)) (λ x. IsStopped c)
-      answers run (λ x stands. stands runs) (λ r d run. each _ _ run)
+      answers run (λ x stopped. stopped runs) (λ r d run. each _ _ run)
 
   counts_goes : GoesBefore M (λ e. begun_in e ≡ 0) first start n
   counts_goes c es run runs early =

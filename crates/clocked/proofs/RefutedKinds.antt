@@ -21,9 +21,9 @@ use Rattle.clocked.specs.Comparison.{clocks_since, begun_in, count_of}
 use Rattle.clocked.specs.Control.{named}
 use Rattle.clocked.specs.Processor.{shown, fresh}
 use Rattle.clocked.specs.Promise.{Starts}
-use Rattle.clocked.specs.Runs.{Config, Event, clocked, reset, drawn, set, given, events, outcome_by}
+use Rattle.clocked.specs.Runs.{Config, Event, clocked, reset, drawn, set, given, events, outcome_by, outcome_of}
 use Rattle.clocked.specs.Wrong.{Exists, Occurs, StartsIn, Changes, DoesNotHalt, TakesOther}
-use Rattle.clocked.specs.WrongMachines.{Clocks, IsDue, IsStopped, IsFinish, GoesOn, NeverEnds, Works, WorksAtOnce, WorksIn, WaitsUnasked, FinishesIf, MakesUpItsCount, HaltsIf, HaltsBefore, NeverUsesTheCard, StaysInFetch0, RefusesEveryClock}
+use Rattle.clocked.specs.WrongMachines.{Clocks, IsDue, IsStopped, Finishes, NeverEnds, Works, WorksAtOnce, WorksIn, WaitsUnasked, FinishesIf, MakesUpItsCount, HaltsIf, HaltsBefore, NeverUsesTheCard, StaysInFetch0, RefusesEveryClock}
 use Rattle.clocked.proofs.RefutedRuns.{clocks_map}
 use Rattle.clocked.proofs.RefutedMachine.{EntryIs, exists, clocks_so, tick, with}
 use Rattle.clocked.proofs.RefutedCounter.{CountsSo, counter_exists}
@@ -51,7 +51,7 @@ refuses x =
     exists g (RefusesEveryClock x)
     (λ first start at e es run h. clocks_so g (λ b t a. ⊥) (λ b r. r ≡ x) (λ b. refl) e.event e.before e.after h)
 
-goes_on : (x : Event) → Clocks (λ t. outcome_by t.answer ≡ None) (λ r. Unit {0}) x → GoesOn x
+goes_on : (x : Event) → Clocks (λ t. outcome_by t.answer ≡ None) (λ r. Unit {0}) x → outcome_of x ≡ None
 goes_on (clocked (Ok t)) h = h
 goes_on (clocked (Err e)) h = refl
 goes_on (reset r) h = refl
@@ -77,7 +77,7 @@ counts n =
     (λ x. IsStopped e.before) (λ x. IsStopped e.before) (λ t so. (by b t e.after so.0, so.1)) (λ x stopped. stopped) e.event h)
   where
     by : (b : Bool) (t : Tick) (d : Config) → CountsSo Done b t d → FinishesIf b t d
-    by true t d h = subst (λ (x : Answer). IsFinish (outcome_by x)) (sym h) tt
+    by true t d h = subst (λ (x : Answer). Finishes (outcome_by x)) (sym h) tt
     by false t d h = (ap outcome_by h.0, h.1)
 
 halts : (n : ℕ) → Exists (HaltsBefore n)

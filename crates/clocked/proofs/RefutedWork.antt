@@ -42,7 +42,7 @@ record Worked (M : Entry → Type 0) (first : State) (start : Config) (k : Contr
 module _ (M : Entry → Type 0) (first : State) (start : Config) (changes : Changes first) (answers : Answering M start) (each : Always M start WorksAtOnce) where
   works_tick : (k : ControlState) (c : Config) (es : List Entry) → Run M start es c → Running c → named c.processor.control ≡ k → Ticked M c (Works k c)
   works_tick k c es run runs state =
-      ticked M start c es (Works k c) (λ x. IsStopped c) answers run (λ x stands. stands runs) (λ r d run. by r d (each _ _ run))
+      ticked M start c es (Works k c) (λ x. IsStopped c) answers run (λ x stopped. stopped runs) (λ r d run. by r d (each _ _ run))
     where
       by : (r : Result Tick Refusal) (d : Config) → WorksAtOnce es (entry c (clocked r) d) → Clocks (λ t. Works k c t d) (λ x. IsStopped c) (clocked r)
       by (Ok t) d h = subst (λ (k : ControlState). Works k c t d) state h

@@ -1,4 +1,4 @@
--- That every machine of some wrong kinds breaks the promise: what the promise refuses.
+-- That every machine of the wrong kinds breaks the promise, and which parts of it.
 -- A reader must believe: nothing; this is shown of the definition of the promise.
 use Rattle.std.specs.Prelude.{◌≡◌, ℕ, ◌+◌, Some, None, Option}
 use Rattle.refusal.specs.declared.Refusal.{Refusal}
@@ -60,12 +60,11 @@ IsAsked (Ended Halted) x = x ≡ None → ⊥
 abbrev pub Asks : Kind
 Asks es e = Clocks (λ t. IsAsked t.answer e.before.card.transfer) (λ r. Unit {0}) e.event
 
--- The first instruction meets no fault, and changes more than PC.
+-- Of the first instruction: it meets no fault and changes more than PC; it does not halt; it does not take n clocks.
 pub record Changes (s : State) : Type 0 where
   pub unhalted : (step s).1.fault ≡ None
   pub more : restarted (step s).1 ≡ restarted s → ⊥
 
--- It does not halt; it takes another number of clocks than n.
 abbrev pub DoesNotHalt : State → Type 0
 DoesNotHalt s = (step s).0 ≡ Some Halted → ⊥
 
@@ -85,7 +84,7 @@ pub record Exists (K : Kind) : Type 0 where
   pub is : (first : State) (start : Config) → Starts first start → IsOf K machine start
   pub others : (start : Config) → IsOf OthersMade machine start
 
--- None of what is refuted is empty.
+-- There are such starts, and machines of each kind.
 pub record Occurs : Type 0 where
   pub start : StartsIn (λ s. Changes s × DoesNotHalt s)
   pub other : (n : ℕ) → StartsIn (TakesOther n)
@@ -97,15 +96,16 @@ pub record Occurs : Type 0 where
   pub fetch : Exists StaysInFetch0
   pub refuses : (x : Refusal) → Exists (RefusesEveryClock x)
 
--- Each kind, and the parts of the promise that fail of it, each part by itself.
+-- The parts of the promise that fail of every machine of each kind, each part by itself.
 pub record Refuted : Type 0 where
+  -- by a reset in decode
   pub works : FailsFrom Changes WorksAtOnce AgreesInDecode
-  -- timing fails even where a machine waits, or halts, unasked but once
-  pub asks : (m : AnyMachine) (first : State) (start : Config) → IsInTime (Makes m) first start → Always (Makes m) start Asks
   pub waits : Fails WaitsUnasked IsInTime × Fails WaitsUnasked Progresses
   pub counts : (n : ℕ) → FailsFrom (TakesOther (n + 1)) (MakesUpItsCount n) IsCounted
   pub halts : (n : ℕ) → FailsFrom DoesNotHalt (HaltsBefore n) Agrees × Fails (HaltsBefore n) IsInTime
   pub card : Fails NeverUsesTheCard IsInTime × Fails (NeverEnds NeverUsesTheCard) Progresses
   pub fetch : Fails StaysInFetch0 IsInTime × Fails StaysInFetch0 Progresses
   pub refuses : (x : Refusal) → Fails (RefusesEveryClock x) IsRefusing × Fails (RefusesEveryClock x) Progresses
+  -- so one clock answered waiting or halted unasked is enough to fail timing
+  pub asks : (m : AnyMachine) (first : State) (start : Config) → IsInTime (Makes m) first start → Always (Makes m) start Asks
   pub occurs : Occurs

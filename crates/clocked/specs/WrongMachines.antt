@@ -1,6 +1,6 @@
--- What a machine is of which something is said, and kinds of wrong machines.
--- A reader must believe: nothing; this serves to show what the promise refuses. A kind says how the machine's clocks are
--- wrong. It asks nothing of other calls, save where it says so, so whatever a machine makes of those, it is of the kind.
+-- What a machine is of which the promise is asked, and kinds of wrong machines.
+-- A reader must believe: nothing; these show what the promise refuses. A kind says how a machine's clocks are wrong. What a
+-- clock leaves behind, and what other calls do, is open wherever a kind does not name it.
 use Rattle.std.specs.Prelude.{◌≡◌, ℕ, Bool, true, false, ◌==◌, List, Some, None, Ok, Err, Option}
 use Rattle.refusal.specs.declared.Refusal.{Refusal}
 use Rattle.machine.specs.declared.machine.Outcome.{Outcome}
@@ -19,7 +19,8 @@ use Rattle.clocked.specs.Promise.{Always, Answering, Running}
 use Rattle.clocked.specs.Refusals.{clock_refusal}
 use Rattle.clocked.specs.Runs.{Config, Call, call_of, Event, clocked, reset, drawn, set, given, Entry, events, outcome_by, outcome_of, MadeBy}
 
--- A machine: by a test of the entries that it makes, or by what it answers to a call at a configuration and leaves.
+-- A machine: by a test of the entries that it makes, or by what it answers to a call at a configuration and leaves there. A
+-- clause can speak of every test and of every function, and not of every relation.
 pub data AnyMachine : Type 0 where
   by_test : (Entry → Bool) → AnyMachine
   by_answer : (Config → Call → Event × Config) → AnyMachine
@@ -28,7 +29,7 @@ abbrev pub Makes : AnyMachine → Entry → Type 0
 Makes (by_test t) e = t e ≡ true
 Makes (by_answer f) e = f e.before (call_of e.event) ≡ (e.event, e.after)
 
--- What is asked of an entry, and of the entries before it.
+-- What is asked of an entry that comes after these entries.
 abbrev pub Kind : Type 1
 Kind = List Entry → Entry → Type 0
 
@@ -37,23 +38,23 @@ pub record IsOf (K : Kind) (m : AnyMachine) (start : Config) : Type 0 where
   pub answers : Answering (Makes m) start
   pub each : Always (Makes m) start K
 
--- An accepted clock has T, and a refused one R.
+-- Of an accepted clock T holds, and of a refused one R.
 abbrev pub Clocks : (Tick → Type 0) → (Refusal → Type 0) → Event → Type 0
 Clocks T R (clocked (Ok t)) = T t
-Clocks T R (clocked (Err e)) = R e
+Clocks T R (clocked (Err x)) = R x
 Clocks T R (reset r) = Unit {0}
 Clocks T R (drawn r) = Unit {0}
 Clocks T R (set k n w r) = Unit {0}
 Clocks T R (given k r) = Unit {0}
 
--- A clock is refused only where some refusal is due; or only where the axis is halted or locked.
+-- Where a kind lets a clock be refused: where some refusal is due, or where the axis is halted or locked.
 abbrev pub IsDue : Config → Type 0
 IsDue b = clock_refusal b.processor b.card ≡ None → ⊥
 
 abbrev pub IsStopped : Config → Type 0
 IsStopped b = Running b → ⊥
 
--- Every other call is as it should be.
+-- Every call but clock does what it should.
 abbrev pub OtherMade : Event → Config → Config → Type 0
 OtherMade (clocked r) b a = Unit {0}
 OtherMade x b a = MadeBy x b a
@@ -61,20 +62,18 @@ OtherMade x b a = MadeBy x b a
 abbrev pub OthersMade : Kind
 OthersMade es e = OtherMade e.event e.before e.after
 
--- No instruction ends.
-abbrev pub GoesOn : Event → Type 0
-GoesOn e = outcome_of e ≡ None
-
+-- Of the kind K, and no clock ends an instruction.
 abbrev pub NeverEnds : Kind → Kind
-NeverEnds K es e = K es e × GoesOn e.event
+NeverEnds K es e = K es e × (outcome_of e.event ≡ None)
 
--- Does all its work in fetch_0 and then idles, through fetch_1 and fetch_2 to decode; its resets are as they should be.
+-- A clock answered on, to a state and to what the axis shows, with the key out or in as before.
 pub record GoesTo (k : ControlState) (s : State) (b : Config) (t : Tick) (a : Config) : Type 0 where
   pub on : t.answer ≡ On
   pub next : named a.processor.control ≡ k
   pub shows : shown a.processor a.card.map ≡ s
   pub lock : a.processor.locked ≡ b.processor.locked
 
+-- In fetch_0 all the work of an instruction that meets no fault, nothing in fetch_1 and fetch_2, anything from decode on.
 abbrev pub Works : ControlState → Config → Tick → Config → Type 0
 Works Fetch0 b t a =
     (step (shown b.processor b.card.map)).1.fault ≡ None → GoesTo Fetch1 (step (shown b.processor b.card.map)).1 b t a
@@ -86,37 +85,38 @@ abbrev pub WorksIn : Event → Config → Config → Type 0
 WorksIn (reset r) b a = MadeBy (reset r) b a
 WorksIn x b a = Clocks (λ t. Works (named b.processor.control) b t a) (λ r. IsStopped b) x
 
+-- Works at once and then idles in the order of the states; its resets do what they should.
 abbrev pub WorksAtOnce : Kind
 WorksAtOnce es e = WorksIn e.event e.before e.after
 
--- Answers every clock waiting, where it asked nothing.
+-- Answers every clock waiting.
 abbrev pub WaitsUnasked : Kind
 WaitsUnasked es e = Clocks (λ t. t.answer ≡ Waiting) (λ r. IsDue e.before) e.event
 
--- Makes up its count: n clocks and one more finish an instruction, whichever it is, and its card never makes it wait.
-abbrev pub IsFinish : Option Outcome → Type 0
-IsFinish None = ⊥
-IsFinish (Some Done) = Unit {0}
-IsFinish (Some Ignored) = Unit {0}
-IsFinish (Some Halted) = ⊥
+abbrev pub Finishes : Option Outcome → Type 0
+Finishes None = ⊥
+Finishes (Some Done) = Unit {0}
+Finishes (Some Ignored) = Unit {0}
+Finishes (Some Halted) = ⊥
 
 abbrev pub FinishesIf : Bool → Tick → Config → Type 0
-FinishesIf true t a = IsFinish (outcome_by t.answer)
+FinishesIf true t a = Finishes (outcome_by t.answer)
 FinishesIf false t a = (outcome_by t.answer ≡ None) × Running a
 
+-- Finishes each instruction, whichever it is, with the clock that comes after n others; no transfer that it begins has waits.
 abbrev pub MakesUpItsCount : ℕ → Kind
 MakesUpItsCount n es e =
     Clocks (λ t. FinishesIf (clocks_since (events es) == n) t e.after × (begun_in e ≡ 0)) (λ r. IsStopped e.before) e.event
 
--- Halts after n clocks, before any transfer.
 abbrev pub HaltsIf : Bool → Tick → Config → Type 0
 HaltsIf true t a = t.answer ≡ Ended Halted
 HaltsIf false t a = (outcome_by t.answer ≡ None) × Running a × (a.card.transfer ≡ None)
 
+-- Halts with the clock that comes after n others, which left no transfer.
 abbrev pub HaltsBefore : ℕ → Kind
 HaltsBefore n es e = Clocks (λ t. HaltsIf (clocks_since (events es) == n) t e.after) (λ r. IsStopped e.before) e.event
 
--- Never uses the card: a clock leaves its transfer as it was.
+-- Never uses the card: a clock leaves the transfer, or that there is none, as it was.
 abbrev pub NeverUsesTheCard : Kind
 NeverUsesTheCard es e = Clocks (λ t. e.after.card.transfer ≡ e.before.card.transfer) (λ r. IsDue e.before) e.event
 
