@@ -81,8 +81,11 @@ keeps_reset c d r n made h =
           }
       | inr (x, e) ↦
           let g = rw e at made in
-          let k = same_keeps n c d (ap (λ (p : Processor). p.control) g.1) g.2 h in
-          record { count = ap (λ (r : Result (Unit {0}) Refusal). since_after (reset r) 1 n) g.0 ∙ k.count; idle = k.idle }
+          let refused : r ≡ Err x = cc in
+          let same : d.processor ≡ c.processor = cc in
+          let card : d.card ≡ c.card = cc in
+          let k = same_keeps n c d (ap (λ (p : Processor). p.control) same) card h in
+          record { count = ap (λ (r : Result (Unit {0}) Refusal). since_after (reset r) 1 n) refused ∙ k.count; idle = k.idle }
     ]
 
 -- The machine ends an instruction with the outcome o after n clocks and one more; it refuses a clock of an axis that does not run.
