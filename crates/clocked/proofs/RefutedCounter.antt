@@ -28,16 +28,8 @@ none_or (Some e) = inr (e, refl)
 
 -- The clocks since the boundary, as the machine keeps them in its control state.
 abbrev kept : Control → ℕ
-kept control.Fetch0 = 0
-kept control.Fetch1 = 0
-kept control.Fetch2 = 0
-kept (control.Decode i) = 0
-kept (control.DispFetch0 i) = 0
-kept (control.DispFetch1 i) = 0
-kept (control.DispFetch2 i) = 0
 kept (control.Execute0 i d) = d
-kept (control.Execute1 a) = 0
-kept (control.Execute2 a) = 0
+kept _ = 0
 
 -- The key's calls leave the control state.
 control_drawn : (c d : Config) (r : Result Key Refusal) → MadeBy (drawn r) c d → d.processor.control ≡ c.processor.control

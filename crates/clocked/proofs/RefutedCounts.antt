@@ -17,7 +17,7 @@ use Rattle.clocked.specs.Wrong.{FailsFrom, Fails, Agrees, IsInTime, IsCounted, D
 use Rattle.clocked.specs.WrongMachines.{Makes, IsStopped, Finishes, FinishesIf, MakesUpItsCount, HaltsIf, HaltsBefore}
 use Rattle.clocked.proofs.RefutedRuns.{entry, Ticked, ticked, GoesBefore, going, Each}
 use Rattle.clocked.proofs.Steps.{some_none}
-use Rattle.clocked.proofs.RefutedTiming.{first_row, halted_on, Second, second, second_row}
+use Rattle.clocked.proofs.RefutedTiming.{first_row, Second, second, second_row}
 
 same_number : (n : ℕ) → n == n ≡ true
 same_number n = grind (arith, nat_tests)
@@ -25,7 +25,7 @@ same_number n = grind (arith, nat_tests)
 -- A machine that halts so does not go on as the table does.
 halts_row : (M : Entry → Type 0) (first : State) (start c : Config) (es : List Entry) → Second c → Run M start es c → Always M start (Timing first) →
     (b : Bool) (t : Tick) (d : Config) → M (entry c (clocked (Ok t)) d) → HaltsIf b t d → ⊥
-halts_row M first start c es s run h true t d m halts = halted_on (sym halts ∙ (second_row M first start c es s run h t d m).0)
+halts_row M first start c es s run h true t d m halts = let on = (second_row M first start c es s run h t d m).0 in absurd (cc)
 halts_row M first start c es s run h false t d m halts =
     some_none _ (sym (ap (λ (m : Meaning). m.transfer) (second_row M first start c es s run h t d m).2.0) ∙ halts.2)
 

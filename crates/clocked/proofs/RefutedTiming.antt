@@ -42,25 +42,18 @@ module _ (M : Entry → Type 0) (first : State) (start : Config) (at : Starts fi
       subst (λ (k : Control). Did (row_of k start.processor) start.processor start.card t.answer d.processor d.card) at.boundary
       (h (entry start (clocked (Ok t)) d) [] (more _ [] none m)).row.1
 
-pub waits_on : ◌≡◌ {A = Answer} Waiting On → ⊥
-waits_on e = absurd (cc)
-
-pub halted_on : ◌≡◌ {A = Answer} (Ended Halted) On → ⊥
-halted_on e = absurd (cc)
-
 pub waits_timing : Fails WaitsUnasked IsInTime
 waits_timing m first start at s is h =
     let t = first_tick (Makes m) first start at is.answers (λ t d. t.answer ≡ Waiting) (λ r d run. is.each _ _ run) in
-    waits_on (sym t.holds ∙ (first_row (Makes m) first start at is.answers h t.tick t.after t.made).0)
-
-fetch01 : ◌≡◌ {A = Control} control.Fetch0 control.Fetch1 → ⊥
-fetch01 e = absurd (cc)
+    let r = first_row (Makes m) first start at is.answers h t.tick t.after t.made in
+    absurd (cc)
 
 pub fetch_timing : Fails StaysInFetch0 IsInTime
 fetch_timing m first start at s is h =
     let t = first_tick (Makes m) first start at is.answers (λ t d. (t.answer ≡ On) × (d.processor.control ≡ control.Fetch0)) (λ r d run. is.each _ _ run) in
     let r = first_row (Makes m) first start at is.answers h t.tick t.after t.made in
-    fetch01 (sym t.holds.1 ∙ ap (λ (p : Processor). p.control) r.1)
+    let k = ap (λ (p : Processor). p.control) r.1 in
+    absurd (cc)
 
 -- After the row of fetch_0: in fetch_1, with no transfer in being.
 pub record Second (c : Config) : Type 0 where
