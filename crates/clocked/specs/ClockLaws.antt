@@ -7,7 +7,7 @@ use Rattle.std.specs.Option.{option_map}
 use Rattle.card.specs.declared.transfer.Direction.TheVariants.{Read}
 use Rattle.card.specs.declared.transfer.Transfer.{Transfer}
 use Rattle.card.specs.Ends.{Map, End, end_of, stored}
-use Rattle.card.specs.Meaning.{after_wait}
+use Rattle.card.specs.Ports.{after_wait}
 use Rattle.isa.specs.declared.fields.Instruction.{Instruction}
 use Rattle.isa.specs.declared.flags.Flags.{Flags}
 use Rattle.isa.specs.declared.opcodes.Class.{Class}
