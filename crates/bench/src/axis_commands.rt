@@ -5,7 +5,7 @@ use super::mistake::Mistake;
 use super::serviced::Serviced;
 use card::Card;
 use clocked::{Answer, ControlState, Tick};
-use fault_line::{Fields, write_line};
+use fault_report::write_fault;
 use machine::{Machine, Outcome};
 use refusal::Refusal;
 use std::io;
@@ -191,22 +191,10 @@ pub fn fault(rt: &HostRuntime, axis: &Axis) -> io::Result<()> {
     let Some(fault) = axis.fault() else {
         return println!(rt; "fault none");
     };
-    // here and in no `From`, since the crates of the fault and of the line do not know each other
-    let fields = Fields {
-        axis: fault.axis.into(),
-        stage: fault.stage.into(),
-        instruction: fault.instruction,
-        access: fault.access,
-        cause: fault.cause.into(),
-        origin: fault.origin.address,
-        layer: fault.origin.layer.into(),
-    };
     let mut line = [0u8; 48];
-    match write_line(fields, &mut line) {
-        Ok(length) => print_text(rt, &line[..length]),
-        // its fields are right by the fault's type and the buffer is long enough, so none is ever refused
-        Err(_) => println!(rt; "fault has no line"),
-    }
+    // 48 bytes do for every line, so it is never refused
+    let length = write_fault(fault, &mut line).unwrap();
+    print_text(rt, &line[..length])
 }
 
 // The line's text, which is ASCII.

@@ -14,6 +14,8 @@ mod edges;
 #[cfg(test)]
 mod fault_lines;
 #[cfg(test)]
+mod fault_reports;
+#[cfg(test)]
 mod faults;
 #[cfg(test)]
 mod images;
