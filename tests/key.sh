@@ -1,7 +1,8 @@
 #!/usr/bin/env bash
-# Two wrong programs that the compiler refuses before anything is proved: one lets a drawn key go, one sets a register with a
-# key given back. Each is an edit of a copy of crates/key_use, outside the repository, that has to be refused with the one
-# error that it names. The copy reads the libraries below it from their sources; rt ci proves the crate as it stands.
+# Three wrong programs that the compiler refuses before anything is proved: one lets a drawn key go, one sets a register with a
+# key given back, one makes a key by itself. Each is an edit of a copy of crates/key_use, outside the repository, that has to be
+# refused with the one error that it names. The copy reads the libraries below it from their sources; rt ci proves the crate as
+# it stands.
 set -euo pipefail
 cd "$(dirname "$0")/.."
 libraries=()
