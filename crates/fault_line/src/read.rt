@@ -57,6 +57,7 @@ impl Reader<'_> {
     }
 
     // A number of some digits after a mark.
+    #[tactic(auto, using(crate::proofs::Parting::after_mark, crate::proofs::Parting::too_short))]
     fn number(&mut self, mark: &[u8], base: Base, places: usize) -> Option<u32>
         requires { radix base ^ places ≤ 2 ^ 32 }
         ensures { NumeralRead mark.now (radix base) places self.old.left.now result self.new.left.now }

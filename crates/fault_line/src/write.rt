@@ -38,6 +38,7 @@ fn name_of(n: u32, names: &[&'static [u8]]) -> &'static [u8]
 }
 
 // Writes texts one after the other over the front of a buffer, and answers their length.
+#[tactic(auto, using(crate::proofs::Filling::joined_fits))]
 fn put(parts: &[&[u8]], line: &mut [u8]) -> usize
     requires { length (joined parts.now) ≤ length line.old }
     ensures end { result ≡ length (joined parts.now) }
@@ -55,6 +56,7 @@ fn put(parts: &[&[u8]], line: &mut [u8]) -> usize
 
 // Writes the line of a fault over the front of a buffer, and answers its length. It is refused, with the buffer as it was,
 // where a field is out of its range, and then where the buffer does not do for every line.
+#[tactic(auto, using(crate::proofs::Writing::fits, crate::proofs::Writing::wrote))]
 pub fn write_line(fields: Fields, line: &mut [u8]) -> Result<usize, Refusal>
     ensures { LineAnswered fields line.old result line.new }
 {

@@ -1,3 +1,5 @@
+-- The line that the texts of its parts make, once each is the text of its field.
+-- Assumes nothing.
 use Rattle.std.proofs.Common.{◌≡◌, ℕ, ◌≤◌, List, [], ◌∷◌, ◌++◌, length, codes, Ok, sym, refl, ap, ◌∙◌, subst, arith}
 use Rattle.fault_line.specs.declared.Fields.{Fields}
 use Rattle.fault_line.specs.Answer.{LineAnswered}
@@ -5,7 +7,6 @@ use Rattle.fault_line.specs.Buffer.{Begins}
 use Rattle.fault_line.specs.Line.{InRange, line_of, name, stages, causes}
 use Rattle.fault_line.specs.Numeral.{digits}
 use Rattle.fault_line.proofs.Lines.{line_bounds}
-use Rattle.fault_line.proofs.write.write_line.Goals as goal
 
 -- the texts of the fields with what stands between them
 abbrev written : List ℕ → List ℕ → List ℕ → List ℕ → List ℕ → List ℕ → List ℕ → List ℕ
@@ -20,10 +21,10 @@ module _
   line_is : written a s i x c o l ≡ line_of f
   line_is = rw (ea, es, ei, ex, ec, eo, el) refl
 
-  fits : (before : List ℕ) → 48 ≤ length before → length (written a s i x c o l) ≤ length before
+  pub fits : (before : List ℕ) → 48 ≤ length before → length (written a s i x c o l) ≤ length before
   fits before long = subst (λ t. length t ≤ length before) (sym line_is) (omega (arith, line_bounds f v))
 
-  wrote : (before after : List ℕ) (r : ℕ) → 48 ≤ length before → r ≡ length (written a s i x c o l)
+  pub wrote : (before after : List ℕ) (r : ℕ) → 48 ≤ length before → r ≡ length (written a s i x c o l)
       → Begins (written a s i x c o l) before after → LineAnswered f before (Ok r) after
   wrote before after r long end puts =
       let b = line_bounds f v in
@@ -32,17 +33,3 @@ module _
         short = λ w h. absurd (omega arith);
         written = λ w h. (ap Ok (end ∙ ap length line_is), b.0, b.1, subst (λ t. Begins t before after) line_is puts);
       }
-
-pub put-requires : goal.put-requires
-put-requires c =
-    fits c.args.fields (c.if-not-in_range.ensures.0 refl)
-    c.digits.ensures c.name_of.ensures c.digits-2.ensures c.digits-3.ensures
-    c.name_of-2.ensures c.digits-4.ensures c.digits-5.ensures
-    c.args.line.now c.if-line-lt-LONGEST.false
-
-pub returns : goal.returns
-returns c =
-    wrote c.args.fields (c.if-not-in_range.ensures.0 refl)
-    c.digits.ensures c.name_of.ensures c.digits-2.ensures c.digits-3.ensures
-    c.name_of-2.ensures c.digits-4.ensures c.digits-5.ensures
-    c.args.line.now c.put.new.line c.put.result c.if-line-lt-LONGEST.false c.put.ensures.end c.put.ensures.puts
