@@ -15,6 +15,6 @@ clocks-preserved g c =
       after = axis_on (g.C.Cells.meaning c.clock.new.card) c.clock.new.self;
     } in
     record {
-      ran = record { entries = _; run = more entry _ before.run c.clock.ensures.clocked; clocks = before.clocks };
+      ran = record { entries = _; run = more entry _ before.run c.clock.ensures.made; clocks = before.clocks };
       frame = c.clock.ensures.frame ∙ c.clocks.invariant.frame;
     }
