@@ -60,11 +60,12 @@ IsAsked (Ended Halted) x = x ≡ None → ⊥
 abbrev pub Asks : Kind
 Asks es e = Clocks (λ t. IsAsked t.answer e.before.card.transfer) (λ r. Unit {0}) e.event
 
--- Of the first instruction: it meets no fault and changes more than PC; it does not halt; it does not take n clocks.
+-- The first instruction meets no fault and changes more than PC.
 pub record Changes (s : State) : Type 0 where
   pub unhalted : (step s).1.fault ≡ None
   pub more : restarted (step s).1 ≡ restarted s → ⊥
 
+-- The first instruction does not halt; it does not take n clocks.
 abbrev pub DoesNotHalt : State → Type 0
 DoesNotHalt s = (step s).0 ≡ Some Halted → ⊥
 
@@ -106,6 +107,6 @@ pub record Refuted : Type 0 where
   pub card : Fails NeverUsesTheCard IsInTime × Fails (NeverEnds NeverUsesTheCard) Progresses
   pub fetch : Fails StaysInFetch0 IsInTime × Fails StaysInFetch0 Progresses
   pub refuses : (x : Refusal) → Fails (RefusesEveryClock x) IsRefusing × Fails (RefusesEveryClock x) Progresses
-  -- so one clock answered waiting or halted unasked is enough to fail timing
+  -- so timing fails by one clock that is answered waiting or halted unasked
   pub asks : (m : AnyMachine) (first : State) (start : Config) → IsInTime (Makes m) first start → Always (Makes m) start Asks
   pub occurs : Occurs
