@@ -130,6 +130,7 @@ impl<'a> TryFrom<&'a [u8]> for Directory<'a> {
 
     ghost try_from_gives = { λ bytes answer. Read bytes.now answer };
 
+    #[tactic(auto, using(crate::specs::Check::no_count, crate::specs::Check::too_many, crate::specs::Check::cut_short), unfolding(crate::specs::Directory::number))]
     fn try_from(bytes: &'a [u8]) -> Result<Directory<'a>, Refusal> {
         let (count, rest) = bytes.split_first_chunk::<4>().ok_or(Refusal::Length)?;
         let count = u32::from_be_bytes(*count) as usize;
