@@ -22,12 +22,12 @@ pub enum OnCells {
 
 impl OnCells {
     // What a command does on cells, if it is one of these. The file that it names is read.
-    pub fn of(rt: &HostRuntime, command: &Command) -> Result<Option<OnCells>, Mistake> {
+    pub fn of(rt: &HostRuntime, command: &Command<'_>) -> Result<Option<OnCells>, Mistake> {
         match command {
             Command::Look(address) => Ok(Some(OnCells::Look(*address))),
             Command::Memory(from, count) => Ok(Some(OnCells::Dump(*from, *count))),
             Command::Place(address, word) => Ok(Some(OnCells::Place(*address, *word))),
-            Command::Load(name) => Ok(Some(OnCells::Load(read_file(rt, name)?))),
+            Command::Load(name) => Ok(Some(OnCells::Load(read_file(rt, name.bytes())?))),
             _ => Ok(None),
         }
     }

@@ -4,15 +4,15 @@ use std::alloc::{AllocError, Global};
 use std::io::Read;
 use std::{env, fs, io, mem};
 
-// A line that has a command or is wrong, by its number in its file.
+// A line that has a command or is wrong, by its number in its file. The command borrows the file's text.
 #[derive(Drop)]
-pub struct Line {
+pub struct Line<'t> {
     pub number: u64,
-    pub command: Result<Command, Wrong>,
+    pub command: Result<Command<'t>, Wrong>,
 }
 
-impl Line {
-    pub fn command(&self) -> Result<&Command, Wrong> {
+impl<'t> Line<'t> {
+    pub fn command(&self) -> Result<&Command<'t>, Wrong> {
         self.command.as_ref().map_err(|wrong| *wrong)
     }
 }
@@ -38,13 +38,13 @@ pub fn gather(rt: &HostRuntime) -> io::Result<Option<Vec<Vec<u8>>>> {
 }
 
 // The lines of all files, parted before each card: the lines before the first one, then those of each scenario.
-pub fn scenarios(heap: Global, files: &[Vec<u8>]) -> Result<Vec<Vec<Line>>, AllocError> {
+pub fn scenarios<'t>(heap: Global, files: &'t [Vec<u8>]) -> Result<Vec<Vec<Line<'t>>>, AllocError> {
     let mut scenarios = Vec::new(heap);
     let mut lines = Vec::new(heap);
     for file in files {
         // lines are counted from 1 in each file
         for (number, text) in (1u64..).zip(file.split(|byte| *byte == b'\n')) {
-            let Some(command) = command::read(heap, text).transpose() else {
+            let Some(command) = command::read(text).transpose() else {
                 continue;
             };
             if let Ok(Command::Card(_, _)) = command {

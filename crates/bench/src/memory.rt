@@ -2,7 +2,7 @@
 use super::mistake::Mistake;
 use super::stack::{Height, Task, UpToThree};
 use card::{BootCard, WordCard};
-use command::Bottom;
+use command::{Bottom, Numbers};
 use layer::Kind;
 use std::alloc::{AllocError, Global};
 use std::io;
@@ -25,13 +25,19 @@ impl Memory {
     }
 
     // Puts words into the memory from an index on, unless they pass its end.
-    pub fn store(&mut self, from: u32, list: &[u32]) -> Result<(), Mistake> {
-        self.words
+    pub fn store(&mut self, from: u32, list: &Numbers<'_>) -> Result<(), Mistake> {
+        let places = self
+            .words
             .as_mut_slice()
             .get_mut(from as usize..)
-            .and_then(|rest| rest.get_mut(..list.len()))
-            .ok_or(Mistake::WordsPastMemory)?
-            .copy_from_slice(list);
+            .ok_or(Mistake::WordsPastMemory)?;
+        // a number for which there is no place
+        if list.iter().nth(places.len()).is_some() {
+            return Err(Mistake::WordsPastMemory);
+        }
+        for (place, word) in places.iter_mut().zip(list.iter()) {
+            *place = word;
+        }
         Ok(())
     }
 

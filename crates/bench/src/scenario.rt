@@ -5,29 +5,28 @@ use super::input::Line;
 use super::memory::Memory;
 use super::mistake::{Mistake, Report};
 use super::session::Session;
-use command::Command;
+use command::{Command, Numbers};
 use layer::Kind;
 use std::{io, slice};
 
 // Carries out the lines of a scenario, which the line of its card begins; without a card none can be carried out.
-pub fn run(rt: &HostRuntime, report: &mut Report<'_>, lines: &[Line]) -> io::Result<()> {
+pub fn run(rt: &HostRuntime, report: &mut Report<'_>, lines: &[Line<'_>]) -> io::Result<()> {
     match lines {
-        [
-            Line {
-                command: Ok(Command::Card(bottom, count)),
-                number: _,
-            },
-            lines @ ..,
-        ] => {
-            let memory = Memory::new(rt.alloc(), *bottom, *count)?;
-            println!(rt; "card ok")?;
-            on_card(rt, report, memory, lines)
+        [] => Ok(()),
+        [first, rest @ ..] => {
+            match first.command() {
+                Ok(Command::Card(bottom, count)) => {
+                    let memory = Memory::new(rt.alloc(), *bottom, *count)?;
+                    println!(rt; "card ok")?;
+                    on_card(rt, report, memory, rest)
+                }
+                _ => without_card(report, lines),
+            }
         }
-        _ => without_card(report, lines),
     }
 }
 
-fn without_card(report: &mut Report<'_>, lines: &[Line]) -> io::Result<()> {
+fn without_card(report: &mut Report<'_>, lines: &[Line<'_>]) -> io::Result<()> {
     for line in lines {
         let mistake = line
             .command()
@@ -41,7 +40,7 @@ fn on_card(
     rt: &HostRuntime,
     report: &mut Report<'_>,
     mut memory: Memory,
-    lines: &[Line],
+    lines: &[Line<'_>],
 ) -> io::Result<()> {
     let mut lines = lines.iter();
     match set_up(rt, report, &mut memory, &mut lines)? {
@@ -62,7 +61,7 @@ fn set_up(
     rt: &HostRuntime,
     report: &mut Report<'_>,
     memory: &mut Memory,
-    lines: &mut slice::Iter<'_, Line>,
+    lines: &mut slice::Iter<'_, Line<'_>>,
 ) -> io::Result<Option<Axis>> {
     for line in lines.by_ref() {
         match carry_out(rt, memory, line) {
@@ -75,7 +74,11 @@ fn set_up(
 }
 
 // Carries out a line before power-up, or an accepted power-up.
-fn carry_out(rt: &HostRuntime, memory: &mut Memory, line: &Line) -> Result<Option<Axis>, Mistake> {
+fn carry_out(
+    rt: &HostRuntime,
+    memory: &mut Memory,
+    line: &Line<'_>,
+) -> Result<Option<Axis>, Mistake> {
     let command = line.command()?;
     if let Some(task) = OnCells::of(rt, command)? {
         memory.perform(rt, task)?;
@@ -113,7 +116,12 @@ fn carry_out(rt: &HostRuntime, memory: &mut Memory, line: &Line) -> Result<Optio
     Ok(None)
 }
 
-fn store(rt: &HostRuntime, memory: &mut Memory, from: u32, list: &[u32]) -> Result<(), Mistake> {
+fn store(
+    rt: &HostRuntime,
+    memory: &mut Memory,
+    from: u32,
+    list: &Numbers<'_>,
+) -> Result<(), Mistake> {
     memory.store(from, list)?;
     println!(rt; "words ok")?;
     Ok(())

@@ -11,13 +11,13 @@ use std::{io, slice};
 
 // All lines after a power-up are one task on one stack, since a transfer can last from a line to the next.
 #[derive(Drop)]
-pub struct Session<'l, 'r, 'a> {
+pub struct Session<'l, 't, 'r, 'a> {
     pub axis: Axis,
-    pub lines: slice::Iter<'l, Line>,
+    pub lines: slice::Iter<'l, Line<'t>>,
     pub report: &'r mut Report<'a>,
 }
 
-impl Task for Session<'_, '_, '_> {
+impl Task for Session<'_, '_, '_, '_> {
     type Answer = ();
 
     fn perform<C: Card>(self, rt: &HostRuntime, card: &mut C) -> io::Result<()> {
@@ -39,7 +39,7 @@ fn carry_out<C: Card>(
     rt: &HostRuntime,
     card: &mut C,
     axis: &mut Axis,
-    line: &Line,
+    line: &Line<'_>,
 ) -> Result<(), Mistake> {
     let command = line.command()?;
     if let Some(task) = OnCells::of(rt, command)? {

@@ -1,6 +1,7 @@
 -- The number that a word stands for: decimal digits, or hexadecimal ones after `0x`, up to 4294967295.
 -- A reader must believe that `digit_value` is the value of a digit or letter, capital or small, and 36 of any other
--- byte, and that `digits_value` is the number that digits write, the first one highest.
+-- byte, and that `digits_value` is the number that digits write, the first one highest. Of words that are not all numbers,
+-- the first that is none decides.
 use Rattle.std.specs.Prelude.{ℕ, Bool, cond, List, [], ◌∷◌, take, drop, Ok, Err, Result, nat_le, nat_lt}
 use Rattle.std.specs.List.{list_all}
 use Rattle.std.specs.Str.Parse.{digits_value}
@@ -22,3 +23,14 @@ number_in_base radix (b ∷ bs) = cond (all_digits radix (b ∷ bs)) (within (di
 
 abbrev pub number_of : List ℕ → Result ℕ Wrong
 number_of w = cond (spells (take 2 w) "0x") (number_in_base 16 (drop 2 w)) (number_in_base 10 w)
+
+-- a number before those of the words after it
+abbrev pub listed : Result ℕ Wrong → Result (List ℕ) Wrong → Result (List ℕ) Wrong
+listed (Ok n) (Ok ns) = Ok (n ∷ ns)
+listed (Ok n) (Err e) = Err e
+listed (Err e) r = Err e
+
+-- the numbers of all the words
+abbrev pub numbers_of : List (List ℕ) → Result (List ℕ) Wrong
+numbers_of [] = Ok []
+numbers_of (w ∷ ws) = listed (number_of w) (numbers_of ws)

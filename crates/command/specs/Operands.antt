@@ -1,10 +1,9 @@
 -- The operands of a command, taken one after the other from the words that follow its first word.
 -- A reader must believe that a missing operand, and one that is wrong, is reported as that.
-use Rattle.std.specs.Prelude.{◌≡◌, ℕ, ◌<◌, cond, ◌⊎◌, List, [], ◌∷◌, ◌++◌, length, Ok, Err, vec_items, Result, Vec, MatchResult}
+use Rattle.std.specs.Prelude.{◌≡◌, ℕ, cond, List, [], ◌∷◌, Ok, Err, Result, MatchResult}
 use Rattle.std.specs.Borrow.{Bor}
-use Rattle.std.specs.declared.alloc.Global.{Global}
 use Rattle.command.specs.declared.Wrong.{Wrong}
-use Rattle.command.specs.declared.Wrong.TheVariants.{MissingOperand, UnknownCard, UnknownMachine, NoMemory}
+use Rattle.command.specs.declared.Wrong.TheVariants.{MissingOperand, UnknownCard, UnknownMachine}
 use Rattle.command.specs.declared.Bottom.{Bottom}
 use Rattle.command.specs.declared.Bottom.TheVariants.{Word, Boot}
 use Rattle.command.specs.declared.MachineKind.{MachineKind}
@@ -49,16 +48,3 @@ machine_named w = cond (spells w "clock") (Ok ByClock) (cond (spells w "instruct
 abbrev pub machine_of : List (List ℕ) → Result (MachineKind × List (List ℕ)) Wrong
 machine_of [] = Err MissingOperand
 machine_of (w ∷ ws) = with (machine_named w) ws
-
--- the numbers of all the words, after those of ns; the first word that is none decides
-abbrev pub numbers_after : List ℕ → List (List ℕ) → Result (List ℕ) Wrong
-numbers_after ns [] = Ok ns
-numbers_after ns (w ∷ ws) = elim (number_of w) [ Ok n ↦ numbers_after (ns ++ n ∷ []) ws | Err e ↦ Err e ]
-
-abbrev pub numbers_of : List (List ℕ) → Result (List ℕ) Wrong
-numbers_of ws = numbers_after [] ws
-
--- the code has a vector in place of the list; for one number or more it may find no memory
-abbrev pub Listed : Result (Vec ℕ Global) Wrong → List (List ℕ) → Type 0
-Listed r ws =
-    MatchResult r (λ v. numbers_of ws ≡ Ok (vec_items v)) (λ e. (numbers_of ws ≡ Err e) ⊎ ((e ≡ NoMemory) × (0 < length ws)))

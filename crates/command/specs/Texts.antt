@@ -4,7 +4,7 @@ use Rattle.std.specs.Prelude.{ℕ, List, codes}
 use Rattle.command.specs.declared.Wrong.{Wrong}
 use Rattle.command.specs.declared.Wrong.TheVariants.{BadByte, UnknownCommand, UnknownCard, UnknownLayer, UnknownMachine}
 use Rattle.command.specs.declared.Wrong.TheVariants.{MissingOperand, ExtraOperand, NotANumber, NumberTooLarge}
-use Rattle.command.specs.declared.Wrong.TheVariants.{CardTooLarge, SlowTooLarge, RegisterTooLarge, PastLastAddress, NoMemory}
+use Rattle.command.specs.declared.Wrong.TheVariants.{CardTooLarge, SlowTooLarge, RegisterTooLarge, PastLastAddress}
 
 abbrev pub text_of : Wrong → List ℕ
 text_of BadByte = codes "a carriage return or a byte outside ASCII"
@@ -20,4 +20,3 @@ text_of CardTooLarge = codes "the card is over 65536 words"
 text_of SlowTooLarge = codes "the waits are over 255"
 text_of RegisterTooLarge = codes "the register is over 255"
 text_of PastLastAddress = codes "a cell is past address 0xffffffff"
-text_of NoMemory = codes "no memory is left"

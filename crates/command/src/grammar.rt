@@ -1,48 +1,44 @@
-// What follows the first word of each command. The heap is passed to those functions alone that may allocate.
-ghost use Rattle.std.specs.Prelude.{◌≡◌, ◌<◌, length, Some, []};
-ghost use Rattle.command.specs.Commands.{parsed, ParsesTo, card_of, store_of, layer_of, slow_of, load_of, power_of};
-ghost use Rattle.command.specs.Commands.{set_of, memory_of};
-ghost use Rattle.command.specs.Lines.{operands_of, NeedsMemory, ReadsWords};
+// What follows the first word of each command.
+ghost use Rattle.std.specs.Prelude.{◌≡◌};
+ghost use Rattle.command.specs.Commands.{parsed, card_of, store_of, layer_of, slow_of, load_of, power_of, set_of, memory_of};
+ghost use Rattle.command.specs.Lines.{operands_of, command_of};
 
 use crate::keyword::Keyword;
-use crate::words::Words;
+use crate::words::{Name, Words};
 use crate::{Bottom, Command, MachineKind, Wrong};
 use layer::Kind;
-use std::alloc::Global;
 
 const CARD_LIMIT: u32 = 65536;
 
 // The command that all words of a line make; None where there is no word.
-pub fn command(heap: Global, words: &mut Words<'_>) -> Result<Option<Command>, Wrong>
-    ensures { ReadsWords result words.old }
+pub fn command<'a>(words: &mut Words<'a>) -> Result<Option<Command<'a>>, Wrong>
+    ensures { result ≡ command_of words.old }
 {
     let Some(word) = words.next() else {
         return Ok(None);
     };
     let keyword = Keyword::try_from(word)?;
-    Ok(Some(complete(heap, keyword, words)?))
+    Ok(Some(complete(keyword, words)?))
 }
 
 // The command that a keyword and all the words after it make.
-fn complete(heap: Global, keyword: Keyword, words: &mut Words<'_>) -> Result<Command, Wrong>
-    ensures { ParsesTo result [] (operands_of keyword words.old)
-        (NeedsMemory (Some keyword) words.old) }
+fn complete<'a>(keyword: Keyword, words: &mut Words<'a>) -> Result<Command<'a>, Wrong>
+    ensures { result ≡ operands_of keyword words.old }
 {
-    let command = with_operands(heap, keyword, words)?;
+    let command = with_operands(keyword, words)?;
     words.end()?;
     Ok(command)
 }
 
 // The command that a keyword and its operands make, with the words after them left.
-fn with_operands(heap: Global, keyword: Keyword, words: &mut Words<'_>) -> Result<Command, Wrong>
-    ensures { ParsesTo result words.new (operands_of keyword words.old)
-        (NeedsMemory (Some keyword) words.old) }
+fn with_operands<'a>(keyword: Keyword, words: &mut Words<'a>) -> Result<Command<'a>, Wrong>
+    ensures { parsed result words.new ≡ operands_of keyword words.old }
 {
     match keyword {
         Keyword::Card => card(words),
-        Keyword::Words => store(heap, words),
+        Keyword::Words => store(words),
         Keyword::Layer => layer(words),
-        Keyword::Load => load(heap, words),
+        Keyword::Load => load(words),
         Keyword::Power => power(words),
         Keyword::Clock => Ok(Command::Clock(words.count()?)),
         Keyword::Instruction => Ok(Command::Instruction(words.count()?)),
@@ -60,7 +56,7 @@ fn with_operands(heap: Global, keyword: Keyword, words: &mut Words<'_>) -> Resul
     }
 }
 
-fn card(words: &mut Words<'_>) -> Result<Command, Wrong>
+fn card<'a>(words: &mut Words<'a>) -> Result<Command<'a>, Wrong>
     ensures { parsed result words.new ≡ card_of words.old }
 {
     let bottom = Bottom::try_from(words.operand()?)?;
@@ -71,18 +67,18 @@ fn card(words: &mut Words<'_>) -> Result<Command, Wrong>
     Ok(Command::Card(bottom, count))
 }
 
-fn store(heap: Global, words: &mut Words<'_>) -> Result<Command, Wrong>
-    ensures { ParsesTo result words.new (store_of words.old) (1 < length words.old) }
+fn store<'a>(words: &mut Words<'a>) -> Result<Command<'a>, Wrong>
+    ensures { parsed result words.new ≡ store_of words.old }
 {
     let from = words.number()?;
-    let list = words.numbers(heap)?;
+    let list = words.numbers()?;
     if list.is_empty() {
         return Err(Wrong::MissingOperand);
     }
     Ok(Command::Words(from, list))
 }
 
-fn layer(words: &mut Words<'_>) -> Result<Command, Wrong>
+fn layer<'a>(words: &mut Words<'a>) -> Result<Command<'a>, Wrong>
     ensures { parsed result words.new ≡ layer_of words.old }
 {
     match words.operand()? {
@@ -93,34 +89,34 @@ fn layer(words: &mut Words<'_>) -> Result<Command, Wrong>
     }
 }
 
-fn slow(words: &mut Words<'_>) -> Result<Command, Wrong>
+fn slow<'a>(words: &mut Words<'a>) -> Result<Command<'a>, Wrong>
     ensures { parsed result words.new ≡ slow_of words.old }
 {
     let waits = u8::try_from(words.number()?).map_err(|_| Wrong::SlowTooLarge)?;
     Ok(Command::Layer(Kind::Slow(waits)))
 }
 
-fn load(heap: Global, words: &mut Words<'_>) -> Result<Command, Wrong>
-    ensures { ParsesTo result words.new (load_of words.old) (0 < length words.old) }
+fn load<'a>(words: &mut Words<'a>) -> Result<Command<'a>, Wrong>
+    ensures { parsed result words.new ≡ load_of words.old }
 {
-    Ok(Command::Load(words.operand()?.to_vec(heap)?))
+    Ok(Command::Load(Name::new(words.operand()?)))
 }
 
-fn power(words: &mut Words<'_>) -> Result<Command, Wrong>
+fn power<'a>(words: &mut Words<'a>) -> Result<Command<'a>, Wrong>
     ensures { parsed result words.new ≡ power_of words.old }
 {
     let kind = MachineKind::try_from(words.operand()?)?;
     Ok(Command::Power(kind, words.number()?))
 }
 
-fn set(words: &mut Words<'_>) -> Result<Command, Wrong>
+fn set<'a>(words: &mut Words<'a>) -> Result<Command<'a>, Wrong>
     ensures { parsed result words.new ≡ set_of words.old }
 {
     let register = u8::try_from(words.number()?).map_err(|_| Wrong::RegisterTooLarge)?;
     Ok(Command::Set(register, words.number()?))
 }
 
-fn memory(words: &mut Words<'_>) -> Result<Command, Wrong>
+fn memory<'a>(words: &mut Words<'a>) -> Result<Command<'a>, Wrong>
     ensures { parsed result words.new ≡ memory_of words.old }
 {
     let address = words.number()?;

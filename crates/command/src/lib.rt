@@ -2,14 +2,12 @@
 #![tactic(auto)]
 
 ghost use Rattle.std.specs.Prelude.{◌≡◌, Some};
-ghost use Rattle.command.specs.Lines.{Reads};
+ghost use Rattle.command.specs.Lines.{line_of};
 ghost use Rattle.command.specs.Operands.{bottom_named, machine_named};
 ghost use Rattle.command.specs.Texts.{text_of};
-ghost use Rattle.command.specs.declared.Wrong.TheVariants.{NoMemory};
 
 use layer::Kind;
 use line::{before_comment, has_bad_byte};
-use std::alloc::{AllocError, AllocFailed, Global};
 use std::error::Error;
 use std::fmt;
 use words::Words;
@@ -19,6 +17,8 @@ mod keyword;
 mod line;
 mod number;
 mod words;
+
+pub use words::{Name, Numbers};
 
 // The card at the bottom of a stack.
 #[derive(Clone, Copy, PartialEq, Eq, Debug)]
@@ -63,15 +63,15 @@ impl TryFrom<&[u8]> for MachineKind {
 }
 
 #[derive(Debug, Drop)]
-pub enum Command {
+pub enum Command<'a> {
     // a bottom card over so many zero words
     Card(Bottom, u32),
     // words into the bottom card's memory, from this index on
-    Words(u32, Vec<u32>),
+    Words(u32, Numbers<'a>),
     // a layer on top of the card
     Layer(Kind),
-    // an image, by its file's name, as the bytes of the line
-    Load(Vec<u8>),
+    // an image, by its file's name
+    Load(Name<'a>),
     // a machine on this axis
     Power(MachineKind, u32),
     // at most so many clocks
@@ -113,7 +113,6 @@ pub enum Wrong {
     SlowTooLarge,
     RegisterTooLarge,
     PastLastAddress,
-    NoMemory,
 }
 
 impl Wrong {
@@ -134,7 +133,6 @@ impl Wrong {
             Wrong::SlowTooLarge => "the waits are over 255",
             Wrong::RegisterTooLarge => "the register is over 255",
             Wrong::PastLastAddress => "a cell is past address 0xffffffff",
-            Wrong::NoMemory => "no memory is left",
         }
     }
 }
@@ -150,30 +148,14 @@ impl fmt::Display for Wrong {
 
 impl Error for Wrong {}
 
-impl From<AllocError> for Wrong {
-    ghost from_gives = { λ _ w. w ≡ NoMemory };
-
-    fn from(_error: AllocError) -> Self {
-        Self::NoMemory
-    }
-}
-
-impl<T: Drop> From<AllocFailed<T>> for Wrong {
-    ghost from_gives = { λ _ w. w ≡ NoMemory };
-
-    fn from(failed: AllocFailed<T>) -> Self {
-        Self::from(AllocError::from(failed))
-    }
-}
-
 // The command on a line, which has no line end; None where it has no word.
 // What is tested first: the bytes, the command's name, its operands from left to right, words too many.
-pub fn read(heap: Global, line: &[u8]) -> Result<Option<Command>, Wrong>
-    ensures { Reads result line.now }
+pub fn read(line: &[u8]) -> Result<Option<Command<'_>>, Wrong>
+    ensures { result ≡ line_of line.now }
 {
     let text = before_comment(line);
     if has_bad_byte(text) {
         return Err(Wrong::BadByte);
     }
-    grammar::command(heap, &mut Words::new(text))
+    grammar::command(&mut Words::new(text))
 }

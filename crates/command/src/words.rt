@@ -1,13 +1,14 @@
-// The words of a line, taken from the left.
-ghost use Rattle.std.specs.Prelude.{◌≡◌, ℕ, ◌<◌, List, [], length, MatchResult, OnOk};
-ghost use Rattle.std.specs.Iterator.{YieldsFirstRef, item_count};
+// The words of a line, taken from the left, and the numbers and the name that a command borrows of them.
+ghost use Rattle.std.specs.Prelude.{◌≡◌, ℕ, ◌<◌, List, [], length, ◌↔◌, IsTrue, MatchResult, OnOk};
+ghost use Rattle.std.specs.Iterator.{YieldsFirst, YieldsFirstRef, item_count};
+ghost use Rattle.command.specs.Numbers.{numbers_of};
 ghost use Rattle.command.specs.Words.{words_of, blank};
-ghost use Rattle.command.specs.Operands.{operand_of, count_of, Takes, TakesWord, Listed};
+ghost use Rattle.command.specs.Operands.{operand_of, count_of, Takes, TakesWord};
 ghost use Rattle.command.specs.declared.Wrong.TheVariants.{ExtraOperand};
 
 use crate::Wrong;
 use crate::number::number;
-use std::alloc::Global;
+use std::fmt;
 use std::marker::Model;
 
 // What is left of a line. A contract sees its words.
@@ -52,6 +53,13 @@ impl<'a> Words<'a> {
         Words { left: text }
     }
 
+    // The same words once more; a type with a `Model` and a lifetime cannot be `Copy`.
+    fn again(&self) -> Words<'a>
+        ensures { result ≡ self.now }
+    {
+        Words { left: self.left }
+    }
+
     // The next word, where there has to be one.
     pub fn operand(&mut self) -> Result<&'a [u8], Wrong>
         ensures { TakesWord result self.new self.old }
@@ -73,16 +81,16 @@ impl<'a> Words<'a> {
     }
 
     // The numbers of all words that are left.
-    pub fn numbers(&mut self, heap: Global) -> Result<Vec<u32>, Wrong>
-        ensures listed { Listed result self.old }
+    pub fn numbers(&mut self) -> Result<Numbers<'a>, Wrong>
+        ensures listed { result ≡ numbers_of self.old }
         ensures all { OnOk result (self.new ≡ []) }
     {
-        let mut list = Vec::new(heap);
+        let words = self.again();
         // a `for` over `self.by_ref()` leaves `all` open: what it leaves of `self` is not known
         while let Some(word) = self.next() {
-            list.push(number(word)?)?;
+            number(word)?;
         }
-        Ok(list)
+        Ok(Numbers { words })
     }
 
     // That no word is left.
@@ -93,5 +101,90 @@ impl<'a> Words<'a> {
             None => Ok(()),
             Some(_) => Err(Wrong::ExtraOperand),
         }
+    }
+}
+
+// Words of a line that are all numbers, each read once more when it is asked for. A contract sees the numbers.
+#[derive(Drop)]
+pub struct Numbers<'a> {
+    words: Words<'a>,
+}
+
+impl<'a> Model for Numbers<'a> {
+    ghost use Rattle.std.specs.Prelude.{ℕ, List, [], IsOk};
+    ghost use Rattle.std.specs.Result.{result_unwrap_or};
+    ghost use Rattle.command.specs.Numbers.{numbers_of};
+
+    ghost Value = { List ℕ };
+
+    ghost view = { λ s. result_unwrap_or (numbers_of s.words) [] };
+
+    ghost invariant = { λ s. IsOk (numbers_of s.words) };
+}
+
+impl Iterator for Numbers<'_> {
+    type Item = u32;
+
+    ghost next_gives = { YieldsFirst (λ numbers. numbers) };
+
+    ghost remaining = { item_count (λ numbers. numbers) };
+
+    fn next(&mut self) -> Option<u32> {
+        number(self.words.next()?).ok()
+    }
+}
+
+impl<'a> Numbers<'a> {
+    // The same numbers, which stay here too.
+    pub fn iter(&self) -> Numbers<'a>
+        ensures { result ≡ self.now }
+    {
+        Numbers {
+            words: self.words.again(),
+        }
+    }
+
+    pub fn is_empty(&self) -> bool
+        ensures { IsTrue result ↔ (self.now ≡ []) }
+    {
+        self.iter().next().is_none()
+    }
+}
+
+impl fmt::Debug for Numbers<'_> {
+    fn fmt<W: fmt::Write>(&self, f: &mut fmt::Formatter<W>) -> fmt::Result {
+        f.debug_list().entries(self.iter()).finish()
+    }
+}
+
+// The name of a file, as the bytes of the line. A contract sees these.
+#[derive(Drop)]
+pub struct Name<'a> {
+    bytes: &'a [u8],
+}
+
+impl<'a> Model for Name<'a> {
+    ghost Value = { List ℕ };
+
+    ghost view = { λ s. s.bytes.now };
+}
+
+impl<'a> Name<'a> {
+    pub(crate) fn new(bytes: &'a [u8]) -> Self
+        ensures { result ≡ bytes.now }
+    {
+        Name { bytes }
+    }
+
+    pub fn bytes(&self) -> &'a [u8]
+        ensures { result.now ≡ self.now }
+    {
+        self.bytes
+    }
+}
+
+impl fmt::Debug for Name<'_> {
+    fn fmt<W: fmt::Write>(&self, f: &mut fmt::Formatter<W>) -> fmt::Result {
+        fmt::Debug::fmt(self.bytes, f)
     }
 }

@@ -2,7 +2,7 @@
 // a limit.
 use super::common::equal;
 use command::{Bottom, MachineKind, Wrong, read};
-use std::alloc::{AllocError, AllocFailed, Global};
+use std::alloc::Global;
 use std::process::Abort;
 use std::test::Fail;
 
@@ -164,7 +164,7 @@ fn mistakes_are_read(rt: HostRuntime) -> Result<(), Fail> {
 // Each line is answered with its text.
 fn are_read(rt: &impl Abort, heap: Global, lines: &[(&[u8], &str)]) -> Result<(), Fail> {
     for (line, expected) in lines {
-        let found = format!(in heap; "{:?}", read(heap, *line))?;
+        let found = format!(in heap; "{:?}", read(*line))?;
         equal(rt, found.as_str(), *expected);
     }
     Ok(())
@@ -186,12 +186,4 @@ fn cards_and_machines_have_names(rt: HostRuntime) {
     for (name, machine) in machines {
         equal(&rt, MachineKind::try_from(name), machine);
     }
-}
-
-#[test]
-fn lack_of_memory_is_a_mistake(rt: HostRuntime) -> Result<(), Fail> {
-    let failed = AllocFailed { value: 7u32 };
-    let text = format!(in rt.alloc(); "{}, {}", Wrong::from(AllocError), Wrong::from(failed))?;
-    equal(&rt, text.as_str(), "no memory is left, no memory is left");
-    Ok(())
 }
