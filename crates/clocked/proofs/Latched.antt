@@ -6,7 +6,8 @@ use Rattle.isa.specs.declared.opcodes.Class.TheVariants.{Load, Store, Branch, Br
 use Rattle.isa.specs.declared.opcodes.Form.{Form}
 use Rattle.isa.specs.declared.opcodes.Form.TheVariants.{Long}
 use Rattle.isa.specs.Opcodes.{class_of}
-use Rattle.machine.specs.State.{State, plus}
+use Rattle.machine.specs.State.{State}
+use Rattle.machine.specs.Laws.{PlusDisplacement}
 use Rattle.machine.specs.Step.{register, displacement}
 use Rattle.clocked.specs.declared.access.Access.{Access}
 use Rattle.clocked.specs.declared.access.Access.TheVariants as access
@@ -40,9 +41,7 @@ pub record StoreOf (a w : ℕ) (A : State) : Type 0 where
   pub form : Form
   pub under : under_way A ≡ Some instruction
   pub class : class_of instruction.opcode ≡ Store form
-  pub displaced : ℕ
-  pub read : displacement form instruction A ≡ Ok displaced
-  pub address : a ≡ plus (register A instruction.r1) displaced
+  pub address : PlusDisplacement form instruction A (register A instruction.r1) a
   pub word : w ≡ register A instruction.r3
 
 abbrev pub AccessOf : Access → State → Type 0

@@ -22,7 +22,8 @@ use Rattle.card.specs.declared.cell.AccessFault.{AccessFault}
 use Rattle.machine.specs.declared.machine.Outcome.TheVariants.{Done, Halted}
 use Rattle.machine.specs.Registers.{put}
 use Rattle.machine.specs.State.{State, plus}
-use Rattle.machine.specs.Step.{register, displacement}
+use Rattle.machine.specs.Laws.{PlusDisplacement}
+use Rattle.machine.specs.Step.{register}
 use Rattle.clocked.specs.declared.access.Access.{Access}
 use Rattle.clocked.specs.declared.access.Access.TheVariants as access
 use Rattle.clocked.specs.declared.control.Control.{Control}
@@ -75,11 +76,12 @@ module _ (A : State) (i : Instruction) (under : under_way A ≡ Some i) where
   in_r3 : (x y : List ℕ) (w : ℕ) → y ≡ put x i.r3 w → PutInR3 A x y
   in_r3 x y w e = subst (λ (u : Option Instruction). IsSomeAnd u (λ j. (w : ℕ) × (y ≡ put x j.r3 w))) (sym under) (w, e)
 
-  stored_from_r3 : (f : Form) (x y : Map) (v : ℕ) → displacement f i A ≡ Ok v → y ≡ stored x (plus (register A i.r1) v) (register A i.r3) →
+  stored_from_r3 : (f : Form) (x y : Map) (a : ℕ) → PlusDisplacement f i A (register A i.r1) a → y ≡ stored x a (register A i.r3) →
       StoredFromR3 f A x y
-  stored_from_r3 f x y v read e =
-      subst (λ (u : Option Instruction). IsSomeAnd u (λ j. (d : ℕ) × (displacement f j A ≡ Ok d) × (y ≡ stored x (plus (register A j.r1) d) (register A j.r3))))
-      (sym under) (v, read, e)
+  stored_from_r3 f x y a plus e =
+      subst
+      (λ (u : Option Instruction). IsSomeAnd u (λ j. (a : ℕ) × PlusDisplacement f j A (register A j.r1) a × (y ≡ stored x a (register A j.r3))))
+      (sym under) (a, plus, e)
 
 -- A transfer that is polled has a wait less, or is over.
 polls_at : (w : ℕ) (b : Request) (take : ℕ → Move) (s : Stage) (a : ℕ) (p : Processor) (c : Meaning) (t : Answer) (q : Processor) (d : Meaning) →
@@ -361,9 +363,7 @@ module _ (A : State) (i : Instruction) (p : Processor) (c : Meaning) (under : un
           form = f;
           under = under;
           class = e;
-          displaced = v;
-          read = h;
-          address = ap (λ (s : State). plus (register s i.r1) v) (sym mid.0);
+          address = (v, h, ap (λ (s : State). plus (register s i.r1) v) (sym mid.0));
           word = ap (λ (s : State). register s i.r3) (sym mid.0);
         })
         (refl, refl, refl, refl)
@@ -442,12 +442,9 @@ module _ (A : State) (p : Processor) (c : Meaning) (t : Answer) (q : Processor) 
   execute2_ends (access.Store x v) (Ok y) of is h after over =
       let m : Map = (finished (request_of (access.Store x v)) c).map in
       let stores : m ≡ stored c.map x v = stores_at v (c.map x) c.map x y is in
-      let there : stored c.map x v ≡ stored c.map (plus (register A of.instruction.r1) of.displaced) (register A of.instruction.r3) =
-      ap (λ (z : ℕ). stored c.map z v) of.address
-      ∙ ap (stored c.map (plus (register A of.instruction.r1) of.displaced)) of.word in
       let g = by_class A state.Execute2 (Ended Done) p c (going Fetch0 p) (finished (request_of (access.Store x v)) c) of.instruction
       (Store of.form) of.under of.class
-      (refl, stored_from_r3 A of.instruction of.under of.form c.map m of.displaced of.read (stores ∙ there), refl, refl) in
+      (refl, stored_from_r3 A of.instruction of.under of.form c.map m x of.address (stores ∙ ap (stored c.map x) of.word), refl, refl) in
       obeys_as A (Execute2 (access.Store x v)) t (Ended Done) p c q (going Fetch0 p) d (finished (request_of (access.Store x v)) c) h.0 h.1 after
       (record {
         laws = record { registers = g.0; cells = g.1; flags = g.2; pc = g.3; transfer = over; follows = (1, omega arith, refl) };

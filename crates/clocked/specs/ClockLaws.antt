@@ -18,7 +18,8 @@ use Rattle.isa.specs.Opcodes.{class_of}
 use Rattle.machine.specs.declared.machine.Outcome.TheVariants.{Done, Ignored, Halted}
 use Rattle.machine.specs.Registers.{put}
 use Rattle.machine.specs.State.{State, plus}
-use Rattle.machine.specs.Step.{register, displacement}
+use Rattle.machine.specs.Laws.{PlusDisplacement}
+use Rattle.machine.specs.Step.{register}
 use Rattle.clocked.specs.declared.control.ControlState.{ControlState}
 use Rattle.clocked.specs.declared.control.ControlState.TheVariants.{Fetch0, Fetch1, Fetch2, Decode, DispFetch0, DispFetch1, DispFetch2, Execute0, Execute1, Execute2}
 use Rattle.clocked.specs.declared.tick.Answer.{Answer}
@@ -57,7 +58,7 @@ RegistersChange k t c s x y = y ≡ x
 abbrev pub StoredFromR3 : Form → State → Map → Map → Type 0
 StoredFromR3 f s x y =
     IsSomeAnd (under_way s)
-    (λ i. (d : ℕ) × (displacement f i s ≡ Ok d) × (y ≡ stored x (plus (register s i.r1) d) (register s i.r3)))
+    (λ i. (a : ℕ) × PlusDisplacement f i s (register s i.r1) a × (y ≡ stored x a (register s i.r3)))
 
 -- Cells change only at the end of execute_2 of a store.
 abbrev pub CellsChange : ControlState → Answer → Option Class → State → Map → Map → Type 0
