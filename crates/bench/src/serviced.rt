@@ -1,6 +1,6 @@
 // The processor by clock with its service key, which is in hand while it is out.
 ghost use Rattle.std.specs.Prelude.{◌≡◌, true};
-ghost use Rattle.bench.specs.Held.{held};
+ghost use Rattle.bench.specs.Keys.{key_fits};
 
 use card::Card;
 use clocked::{Key, NotTaken, Processor, Tick};
@@ -10,7 +10,7 @@ use refusal::Refusal;
 pub struct Serviced {
     processor: Processor,
     key: Option<Key>,
-    ghost fitting: { held key processor ≡ true },
+    ghost fitting: { key_fits key processor ≡ true },
 }
 
 impl Drop for Serviced {

@@ -1,7 +1,7 @@
 -- The meaning of the two bottom cards, which lie over lent words.
 -- A reader must believe: address n has a cell if word n is there and n is below 65,536, and is absent otherwise, with
 -- the card itself as origin. The word card's cells are open, the boot card's fixed. No transfer has a wait.
-use Rattle.std.specs.Prelude.{◌≡◌, ℕ, Bool, cond, ◌&&◌, List, length, drop, Some, None, Option, nat_lt, slice_index, slice_set}
+use Rattle.std.specs.Prelude.{◌≡◌, ℕ, Bool, ◌&&◌, List, length, drop, Some, None, Option, nat_lt, slice_index, slice_set, if◌then◌else◌}
 use Rattle.std.specs.Borrow.{GName, MutBor}
 use Rattle.card.specs.declared.cell.Cell.TheVariants.{Absent, Fixed, Open}
 use Rattle.card.specs.declared.cell.Origin.{Origin}
@@ -9,13 +9,9 @@ use Rattle.card.specs.declared.transfer.Direction.{Direction}
 use Rattle.card.specs.declared.transfer.Direction.TheVariants.{Read, Write}
 use Rattle.card.specs.declared.transfer.Request.{Request}
 use Rattle.card.specs.declared.transfer.Transfer.{Transfer}
-use Rattle.card.specs.Ends.{Map}
+use Rattle.card.specs.Cells.{here, Map}
 use Rattle.card.specs.Meaning.{Meaning}
 use Rattle.card.specs.Ports.{ended}
-
--- The origin of a refusal by the card itself.
-abbrev pub here : ℕ → Origin
-here a = record { address = a; layer = 0 }
 
 -- Whether so many words have one for the address a.
 abbrev pub addressed : ℕ → ℕ → Bool
@@ -25,14 +21,14 @@ abbrev pub has : List ℕ → ℕ → Bool
 has ws a = addressed (length ws) a
 
 -- The word that so many words have at the address a.
-abbrev pub word_of : List ℕ → ℕ → Option ℕ
-word_of ws a = cond (has ws a) (Some (slice_index ws a)) None
+abbrev pub word_at : List ℕ → ℕ → Option ℕ
+word_at ws a = if has ws a then Some (slice_index ws a) else None
 
 abbrev pub open_cells : List ℕ → Map
-open_cells ws a = cond (has ws a) (Open (slice_index ws a)) (Absent (here a))
+open_cells ws a = if has ws a then Open (slice_index ws a) else Absent (here a)
 
 abbrev pub fixed_cells : List ℕ → Map
-fixed_cells ws a = cond (has ws a) (Fixed (slice_index ws a) (here a)) (Absent (here a))
+fixed_cells ws a = if has ws a then Fixed (slice_index ws a) (here a) else Absent (here a)
 
 -- A card over these cells, with a transfer in being or none.
 abbrev pub bottom : Map → Option Transfer → Meaning
@@ -40,7 +36,7 @@ bottom f t = record { map = f; transfer = t; patience = 0 }
 
 -- The words after w was stored at the address a, where they have one for it.
 abbrev pub written : List ℕ → ℕ → ℕ → List ℕ
-written ws a w = cond (has ws a) (slice_set ws a w) ws
+written ws a w = if has ws a then slice_set ws a w else ws
 
 -- A loan that is the same afterwards, and leaves these words.
 pub record Keeps (before after : MutBor (List ℕ)) (words : List ℕ) : Type 0 where

@@ -1,7 +1,8 @@
 -- How a transfer ends, and what it leaves in the map of a card's cells.
 -- A reader must believe: a read ends with the word of a fixed or an open cell, a write stores its word in an open
 -- cell and answers it, and every other end is a fault that names the cell's origin.
-use Rattle.std.specs.Prelude.{ℕ, cond, Ok, Err, Result, ◌==◌}
+use Rattle.std.specs.Prelude.{ℕ, Ok, Err, Result, ◌==◌, if◌then◌else◌}
+use Rattle.card.specs.Cells.{Map}
 use Rattle.card.specs.declared.cell.AccessFault.{AccessFault}
 use Rattle.card.specs.declared.cell.Cell.{Cell}
 use Rattle.card.specs.declared.cell.Cell.TheVariants.{Absent, Fixed, Open}
@@ -12,13 +13,9 @@ use Rattle.card.specs.declared.transfer.Request.{Request}
 use Rattle.card.specs.declared.cell.Cause.{Cause}
 use Rattle.card.specs.declared.cell.Origin.{Origin}
 
--- The cell at each address.
-abbrev pub Map : Type 0
-Map = ℕ → Cell
-
 -- The map with the word w in an open cell at a, and all other cells as they are.
 abbrev pub stored : Map → ℕ → ℕ → Map
-stored m a w x = cond (x == a) (Open w) (m x)
+stored m a w x = if x == a then Open w else m x
 
 -- The word, or why there is none.
 abbrev pub End : Type 0

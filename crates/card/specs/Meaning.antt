@@ -8,7 +8,8 @@ use Rattle.card.specs.declared.cell.Cell.{Cell}
 use Rattle.card.specs.declared.cell.Cell.TheVariants.{Absent, Fixed, Open}
 use Rattle.card.specs.declared.transfer.Request.{Request}
 use Rattle.card.specs.declared.transfer.Transfer.{Transfer}
-use Rattle.card.specs.Ends.{Map, End, end_of, leaves, stored}
+use Rattle.card.specs.Cells.{Map}
+use Rattle.card.specs.Ends.{End, end_of, leaves, stored}
 
 pub record Meaning : Type 0 where
   pub map : Map
@@ -52,13 +53,13 @@ abbrev pub Begun : ℕ → Meaning → Request → Result ℕ Refusal → Meanin
 Begun w m q r n = BegunFrom m.transfer w m q r n
 
 -- Poll: one wait less and no end while there are waits left, else the end of the transfer.
-abbrev pub AnsweredAt : ℕ → Request → Meaning → Result (Option End) Refusal → Meaning → Type 0
-AnsweredAt zero q m r n = (r ≡ Ok (Some (end_of q.direction (m.map q.address)))) × (n ≡ finished q m)
-AnsweredAt (suc w) q m r n = (r ≡ Ok None) × (n ≡ waiting q w m)
+abbrev pub PolledAt : ℕ → Request → Meaning → Result (Option End) Refusal → Meaning → Type 0
+PolledAt zero q m r n = (r ≡ Ok (Some (end_of q.direction (m.map q.address)))) × (n ≡ finished q m)
+PolledAt (suc w) q m r n = (r ≡ Ok None) × (n ≡ waiting q w m)
 
-abbrev pub AnsweredFrom : Option Transfer → Meaning → Result (Option End) Refusal → Meaning → Type 0
-AnsweredFrom None m r n = Refuses refused.Transfer r m n
-AnsweredFrom (Some t) m r n = AnsweredAt t.waits t.request m r n
+abbrev pub PolledFrom : Option Transfer → Meaning → Result (Option End) Refusal → Meaning → Type 0
+PolledFrom None m r n = Refuses refused.Transfer r m n
+PolledFrom (Some t) m r n = PolledAt t.waits t.request m r n
 
-abbrev pub Answered : Meaning → Result (Option End) Refusal → Meaning → Type 0
-Answered m r n = AnsweredFrom m.transfer m r n
+abbrev pub Polled : Meaning → Result (Option End) Refusal → Meaning → Type 0
+Polled m r n = PolledFrom m.transfer m r n

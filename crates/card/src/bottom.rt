@@ -3,9 +3,9 @@
 // Beside the interface's own clause, each call says what the memory is then: so the lent words hold what was stored in them.
 ghost use Rattle.std.specs.Prelude.{◌≡◌, ℕ, List, None};
 ghost use Rattle.std.proofs.Common.{zero-le};
-ghost use Rattle.card.specs.Ends.{Map};
-ghost use Rattle.card.specs.Meaning.{Placed, Begun, Answered, idle};
-ghost use Rattle.card.specs.Bottom.{addressed, word_of, open_cells, fixed_cells, bottom, After, Keeps, Written, Loan, loan_of};
+ghost use Rattle.card.specs.Cells.{Map};
+ghost use Rattle.card.specs.Meaning.{Placed, Begun, Polled, idle};
+ghost use Rattle.card.specs.Bottom.{addressed, word_at, open_cells, fixed_cells, bottom, After, Keeps, Written, Loan, loan_of};
 
 use super::card::{Card, Cells};
 use super::cell::{Cell, Origin};
@@ -22,7 +22,7 @@ fn has_word(count: usize, address: u32) -> bool
 
 // The word that a card over these words has at the address.
 fn word_at(words: &[u32], address: u32) -> Option<u32>
-    ensures { result ≡ word_of words.now address }
+    ensures { result ≡ word_at words.now address }
 {
     has_word(words.len(), address).then(|| words[address as usize])
 }
@@ -190,7 +190,7 @@ impl<M: Memory> Card for BottomCard<M> {
     }
 
     fn poll(&mut self) -> Result<Option<End>, Refusal>
-        ensures answered { Answered (bottom (M.cells self.old.memory) self.old.port.transfer)
+        ensures polled { Polled (bottom (M.cells self.old.memory) self.old.port.transfer)
             result (bottom (M.cells self.new.memory) self.new.port.transfer) }
         ensures frame { M.frame self.new.memory ≡ M.frame self.old.memory }
         ensures memory { After M.Rewritten self.old.port.transfer self.old.memory self.new.memory }

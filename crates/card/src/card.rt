@@ -1,6 +1,6 @@
 // The interface of a card. What an implementation means is one ghost member, and each call is a relation on it.
 ghost use Rattle.std.specs.Prelude.{◌≡◌, ◌≤◌, ℕ};
-ghost use Rattle.card.specs.Meaning.{Meaning, Placed, Begun, Answered, idle};
+ghost use Rattle.card.specs.Meaning.{Meaning, Placed, Begun, Polled, idle};
 ghost use Rattle.card.specs.declared.transfer.Request.{Request};
 
 use super::cell::Cell;
@@ -50,7 +50,7 @@ pub trait Card: Cells {
 
     // Takes one wait off the transfer and answers none, or ends it; refused without one.
     fn poll(&mut self) -> Result<Option<End>, Refusal>
-        ensures answered { Answered (Self.Cells.meaning self.old) result (Self.Cells.meaning self.new) }
+        ensures polled { Polled (Self.Cells.meaning self.old) result (Self.Cells.meaning self.new) }
         ensures frame { Self.Cells.frame self.new ≡ Self.Cells.frame self.old };
 
     // Makes the transfer none.

@@ -4,7 +4,7 @@ use Rattle.std.proofs.Common.{◌≡◌, ℕ, ◌+◌, Bool, true, false, cond, 
 use Rattle.refusal.specs.declared.Refusal.{Refusal}
 use Rattle.refusal.specs.Unless.{UnlessRefused}
 use Rattle.card.specs.Meaning.{Meaning, idle}
-use Rattle.machine.specs.declared.fault.Fault.{Fault as Record}
+use Rattle.machine.specs.declared.fault.Fault.{Fault}
 use Rattle.machine.specs.Axes.{axis_number}
 use Rattle.machine.specs.Registers.{put}
 use Rattle.machine.specs.State.{State}
@@ -20,7 +20,7 @@ use Rattle.clocked.specs.Calls.{Did, Accepted, not_taken}
 use Rattle.clocked.specs.Refusals.{when_locked, when_halted, clock_refusal, reset_refusal, draw_refusal, key_refusal, is_fetch0, is_at_rest, fits}
 use Rattle.clocked.specs.Comparison.{compared_after, with_register, since_after, begun, out_after}
 use Rattle.clocked.specs.Changes.{written_back, restarting, locking, setting}
-use Rattle.clocked.specs.Processor.{shown, storing}
+use Rattle.clocked.specs.Processor.{axis_state, storing}
 use Rattle.clocked.specs.Entries.{Answers, DidRow, Took, refusal_of, refusal_due, Unchanged, KeyStays}
 use Rattle.clocked.specs.Runs.{Config, config, outcome_of, tick_of, Event, clocked, reset, drawn, set, given, MadeBy}
 use Rattle.clocked.specs.Table.{row_of}
@@ -75,7 +75,7 @@ pub no_lock : (l : Bool) (x : Option Refusal) → when_locked l x ≡ None → (
 no_lock false x e = (refl, e)
 no_lock true x e = elim (some_none _ e) [ ]
 
-pub no_halt : (f : Option Record) (x : Option Refusal) → when_halted f x ≡ None → (f ≡ None) × (x ≡ None)
+pub no_halt : (f : Option Fault) (x : Option Refusal) → when_halted f x ≡ None → (f ≡ None) × (x ≡ None)
 no_halt None x e = (refl, e)
 no_halt (Some f) x e = elim (some_none _ e) [ ]
 
@@ -213,7 +213,7 @@ module _ (A : State) (n w : ℕ) (p : Processor) (c : Meaning) (inv : Inv A n w 
       (ap (λ (y : Processor). y.locked) h.1))
 
   -- A register is set only while the key is out, and then no result is pending.
-  setting_as : (m v : ℕ) → p.pending ≡ None → A ≡ shown p c.map → with_register m v A ≡ shown (setting m v p) c.map
+  setting_as : (m v : ℕ) → p.pending ≡ None → A ≡ axis_state p c.map → with_register m v A ≡ axis_state (setting m v p) c.map
   setting_as m v none agrees =
       ap (with_register m v) agrees
       ∙ ap (λ (z : Option Pending). with_register m v (record { axis = p.axis; registers = storing z p.registers.words; pc = p.pc; flags = p.flags; map = c.map; fault = p.fault })) none

@@ -17,7 +17,7 @@ use Rattle.clocked.specs.declared.processor.Processor.{Processor}
 use Rattle.clocked.specs.declared.tick.Answer.TheVariants.{On, Ended}
 use Rattle.clocked.specs.declared.tick.Answer.{Answer}
 use Rattle.clocked.specs.Calls.{Did}
-use Rattle.clocked.specs.Comparison.{count_of, begun, clocks_for}
+use Rattle.clocked.specs.Comparison.{clocks_due, begun, clocks_for}
 use Rattle.clocked.specs.Changes.{going}
 use Rattle.clocked.specs.Entries.{Took}
 use Rattle.clocked.specs.Table.{decodes, row_of}
@@ -70,11 +70,11 @@ module _ (A : State) (n w : ℕ) (i : Instruction) (p : Processor) (c : Meaning)
         }
 
     finishing : (o : Outcome) → executed_by k t i O ≡ (o, jump O (plus p.start 1)) →
-        (n + 1 ≡ count_of A + (w + begun c.transfer c.transfer) → Took (Some o) A n (w + begun c.transfer c.transfer)) →
+        (n + 1 ≡ clocks_due A + (w + begun c.transfer c.transfer) → Took (Some o) A n (w + begun c.transfer c.transfer)) →
         clocks_for k t ≡ 4 → Gives A n w (Decode i) c (Ended o) (going Fetch0 p) c
     finishing o same took clocks =
         let none = begun_same c.transfer in
-        let total = ap count_of at.mid.0 ∙ h.total ∙ clocks in
+        let total = ap clocks_due at.mid.0 ∙ h.total ∙ clocks in
         ending A n w (Decode i) p c (going Fetch0 p) c o (jump O (plus p.start 1)) refl at.mid.3 at.idle at.mid.0
         at.mid.1 (h.left ∙ same) (shown_at_last p c.map c.map at.mid.2 refl (plus p.start 1) p.pc (sym pc))
         (took (omega (arith, at.count, none, total)))

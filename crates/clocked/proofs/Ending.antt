@@ -2,7 +2,7 @@
 use Rattle.std.proofs.Common.{◌≡◌, ℕ, ◌+◌, ◌≤◌, false, Some, None, Option, sym, refl, ap, ◌∙◌, subst, arith}
 use Rattle.card.specs.declared.cell.AccessFault.{AccessFault}
 use Rattle.card.specs.declared.transfer.Request.{Request}
-use Rattle.card.specs.Ends.{Map}
+use Rattle.card.specs.Cells.{Map}
 use Rattle.card.specs.Meaning.{Meaning, waiting, finished}
 use Rattle.machine.specs.declared.fault.Stage.{Stage}
 use Rattle.machine.specs.declared.machine.Outcome.{Outcome}
@@ -17,11 +17,11 @@ use Rattle.clocked.specs.declared.tick.Answer.TheVariants.{Waiting, Ended}
 use Rattle.clocked.specs.Calls.{Ends, PollsFrom, waits_left}
 use Rattle.clocked.specs.Comparison.{begun}
 use Rattle.clocked.specs.Changes.{going_at, halting}
-use Rattle.clocked.specs.Processor.{shown, storing}
+use Rattle.clocked.specs.Processor.{axis_state, storing}
 use Rattle.clocked.specs.Entries.{Took}
 use Rattle.clocked.specs.Table.{Move}
 use Rattle.clocked.proofs.Gives.{Gives, given_as}
-use Rattle.clocked.proofs.Polling.{Outcome as Polled, waits, ends, polled, begun_busy}
+use Rattle.clocked.proofs.Polling.{PollGives, waits, ends, polled, begun_busy}
 use Rattle.clocked.proofs.Invariant.{At, Busy, origin, end_in, clocks_left}
 use Rattle.clocked.proofs.Steps.{never_both, step_running}
 
@@ -33,10 +33,10 @@ module _ (A O S : State) (o : Outcome) (u : State) where
 
 module _ (A : State) (n w : ℕ) (k : Control) (p : Processor) (c : Meaning) (q : Processor) (d : Meaning) (o : Outcome) (u : State) where
   pub ending : q.control ≡ Fetch0 → q.locked ≡ false → d.transfer ≡ None → A ≡ origin p c.map → p.fault ≡ None →
-      running (origin p c.map) ≡ (o, u) → u ≡ shown q d.map → Took (Some o) A n (w + begun c.transfer d.transfer) →
+      running (origin p c.map) ≡ (o, u) → u ≡ axis_state q d.map → Took (Some o) A n (w + begun c.transfer d.transfer) →
       Gives A n w k c (Ended o) q d
   ending boundary unlocked idle same unhalted left is took =
-      let both = compares A (origin p c.map) (shown q d.map) o u same unhalted left is in
+      let both = compares A (origin p c.map) (axis_state q d.map) o u same unhalted left is in
       record {
         inv = subst (λ (x : Control). At x (step A).1 0 0 q d) (sym boundary)
             (record {
@@ -54,16 +54,16 @@ module _ (A : State) (n w : ℕ) (k : Control) (p : Processor) (c : Meaning) (q 
 
 -- What an axis shows that has no result pending.
 module _ (p : Processor) (f g : Map) (none : p.pending ≡ None) (same : f ≡ g) where
-  pub shown_at_last : (x y : ℕ) → x ≡ y → jump (origin p f) x ≡ shown (going_at Fetch0 y p) g
+  pub shown_at_last : (x y : ℕ) → x ≡ y → jump (origin p f) x ≡ axis_state (going_at Fetch0 y p) g
   shown_at_last x y e =
       ap (λ (z : Option Pending). jump (record { axis = p.axis; registers = storing z p.registers.words; pc = x; flags = p.flags; map = f; fault = p.fault }) x) (sym none)
-      ∙ ap (λ (z : ℕ). shown (going_at Fetch0 z p) f) e ∙ ap (shown (going_at Fetch0 y p)) same
+      ∙ ap (λ (z : ℕ). axis_state (going_at Fetch0 z p) f) e ∙ ap (axis_state (going_at Fetch0 y p)) same
 
   pub shown_halted : (s : Stage) (a : ℕ) (why : AccessFault) →
-      (halt (origin p f) s a why).1 ≡ shown (halting s a why p) g
+      (halt (origin p f) s a why).1 ≡ axis_state (halting s a why p) g
   shown_halted s a why =
       ap (λ (z : Option Pending). record { axis = p.axis; registers = storing z p.registers.words; pc = p.start; flags = p.flags; map = f; fault = Some (record { axis = p.axis; stage = s; instruction = p.start; access = a; cause = why.cause; origin = why.origin }) }) (sym none)
-      ∙ ap (shown (halting s a why p)) same
+      ∙ ap (axis_state (halting s a why p)) same
 
 -- A clock that waits leaves the processor, with one wait less.
 module _ (A : State) (n w : ℕ) (k : Control) (p : Processor) (c : Meaning) (b : Request) (v : ℕ) where
@@ -91,7 +91,7 @@ module _ (A : State) (n w : ℕ) (k : Control) (p : Processor) (c : Meaning) (t 
   polling is at did again less over =
       by_outcome (waits_left c.transfer) refl (polled n w r z b take s a p c t q d at.busy at.count did)
     where
-      by_outcome : (x : ℕ) → waits_left c.transfer ≡ x → Polled n w r z b take s a p c t q d x → Gives A n w k c t q d
+      by_outcome : (x : ℕ) → waits_left c.transfer ≡ x → PollGives n w r z b take s a p c t q d x → Gives A n w k c t q d
       by_outcome x left (waits v wait same after count) =
           let none = begun_busy c.transfer (waiting b v c).transfer b at.busy in
           given_as A n w k c t Waiting q p d (waiting b v c) wait same after

@@ -5,14 +5,15 @@ use Rattle.card.specs.declared.cell.Cell.TheVariants.{Absent, Fixed, Open}
 use Rattle.card.specs.declared.cell.AccessFault.{AccessFault}
 use Rattle.card.specs.declared.transfer.Direction.{Direction}
 use Rattle.card.specs.declared.transfer.Direction.TheVariants.{Read, Write}
-use Rattle.card.specs.Ends.{Map, End, end_of, leaves_at}
+use Rattle.card.specs.Cells.{Map}
+use Rattle.card.specs.Ends.{End, end_of, leaves_at}
 use Rattle.card.specs.Meaning.{Meaning, waiting, finished}
 use Rattle.isa.specs.declared.fields.Instruction.{Instruction}
 use Rattle.isa.specs.declared.opcodes.Class.{Class}
 use Rattle.isa.specs.declared.opcodes.Class.TheVariants.{Arithmetic, ArithmeticQuick, Logical, Load, Store, Branch, BranchIndexed, Unknown}
 use Rattle.isa.specs.declared.opcodes.Form.{Form}
 use Rattle.isa.specs.declared.opcodes.Form.TheVariants.{Long, Quick}
-use Rattle.isa.specs.Alu.{Answer as Result, alu_of, logic_of}
+use Rattle.isa.specs.Alu.{Answer as AluAnswer, alu_of, logic_of}
 use Rattle.machine.specs.declared.machine.Outcome.{Outcome}
 use Rattle.machine.specs.declared.machine.Outcome.TheVariants.{Done, Ignored, Halted}
 use Rattle.machine.specs.State.{State, plus}
@@ -24,10 +25,10 @@ use Rattle.clocked.specs.declared.processor.Processor.{Processor}
 use Rattle.clocked.specs.declared.tick.Answer.{Answer}
 use Rattle.clocked.specs.declared.tick.Answer.TheVariants.{On, Ended}
 use Rattle.clocked.specs.Calls.{Did, Ends, waits_left}
-use Rattle.clocked.specs.Comparison.{count_of, begun}
+use Rattle.clocked.specs.Comparison.{clocks_due, begun}
 use Rattle.clocked.specs.Control.{request_of, stage_of}
 use Rattle.clocked.specs.Changes.{going, going_at, latching, halting}
-use Rattle.clocked.specs.Processor.{shown}
+use Rattle.clocked.specs.Processor.{axis_state}
 use Rattle.clocked.specs.Entries.{Took}
 use Rattle.clocked.specs.Table.{executes, latches, skipping, completes, row_of}
 use Rattle.clocked.proofs.Invariant.{At, Idle, Ready, origin, class_in, taken_in, resumed, accessed, last, end_in}
@@ -57,7 +58,7 @@ module _ (A : State) (n w : ℕ) (i : Instruction) (d : ℕ) (p : Processor) (c 
   abbrev O : State
   O = origin p c.map
 
-  module _ (k : Class) (t : Bool) (at : Idle A n w p c (last k) (count_of (origin p c.map))) (h : Ready k t i d (origin p c.map) p.pc) where
+  module _ (k : Class) (t : Bool) (at : Idle A n w p c (last k) (clocks_due (origin p c.map))) (h : Ready k t i d (origin p c.map) p.pc) where
     -- To execute_1 with a load or store.
     accessing : (a : Access) → last k ≡ 3 → resumed k t i O d ≡ accessed a p.pc (end_in (request_of a) c.map) O →
         Gives A n w (Execute0 i d) c On (going (Execute1 a) p) c
@@ -76,20 +77,20 @@ module _ (A : State) (n w : ℕ) (i : Instruction) (d : ℕ) (p : Processor) (c 
 
     -- To the end.
     finishing : (o : Outcome) (u : State) (q : Processor) → q.control ≡ Fetch0 → q.locked ≡ p.locked → last k ≡ 1 →
-        resumed k t i O d ≡ (o, u) → u ≡ shown q c.map →
-        (n + 1 ≡ count_of A + (w + begun c.transfer c.transfer) → Took (Some o) A n (w + begun c.transfer c.transfer)) →
+        resumed k t i O d ≡ (o, u) → u ≡ axis_state q c.map →
+        (n + 1 ≡ clocks_due A + (w + begun c.transfer c.transfer) → Took (Some o) A n (w + begun c.transfer c.transfer)) →
         Gives A n w (Execute0 i d) c (Ended o) q c
     finishing o u q boundary lock clocks same is took =
         let none = begun_same c.transfer in
-        let total = ap count_of at.mid.0 in
+        let total = ap clocks_due at.mid.0 in
         ending A n w (Execute0 i d) p c q c o u boundary (lock ∙ at.mid.3) at.idle at.mid.0 at.mid.1 (h.left ∙ same) is
         (took (omega (arith, at.count, none, total, clocks)))
 
-    latching_as : (r : Result) → last k ≡ 1 → p.pc ≡ plus p.start 1 → resumed k t i O d ≡ latch r i O →
+    latching_as : (r : AluAnswer) → last k ≡ 1 → p.pc ≡ plus p.start 1 → resumed k t i O d ≡ latch r i O →
         Gives A n w (Execute0 i d) c (Ended Done) (latches r i p).1 c
     latching_as r clocks pc same =
         finishing Done (latch r i O).1 (latches r i p).1 refl refl clocks same
-        (ap (jump (shown (latches r i p).1 c.map)) (sym pc)) (λ e. e)
+        (ap (jump (axis_state (latches r i p).1 c.map)) (sym pc)) (λ e. e)
 
     branching : (target : ℕ) (x : ℕ) → last k ≡ 1 → resumed k t i O d ≡ (Done, jump O x) → x ≡ target →
         Gives A n w (Execute0 i d) c (Ended Done) (going_at Fetch0 target p) c
@@ -97,7 +98,7 @@ module _ (A : State) (n w : ℕ) (i : Instruction) (d : ℕ) (p : Processor) (c 
         finishing Done (jump O x) (going_at Fetch0 target p) refl refl clocks same
         (shown_at_last p c.map c.map at.mid.2 refl x target is) (λ e. e)
 
-  by_class : (k : Class) (t : Bool) → Idle A n w p c (last k) (count_of (origin p c.map)) → Ready k t i d (origin p c.map) p.pc →
+  by_class : (k : Class) (t : Bool) → Idle A n w p c (last k) (clocks_due (origin p c.map)) → Ready k t i d (origin p c.map) p.pc →
       Gives A n w (Execute0 i d) c (executes k t i d p).0 (executes k t i d p).1 c
   by_class (Arithmetic op) t at h =
       latching_as (Arithmetic op) t at h (alu_of op (register O i.r1) (register O i.r2)) refl h.ready refl
@@ -170,17 +171,17 @@ module _ (A : State) (n w : ℕ) (p : Processor) (c : Meaning) (t : Answer) (q :
       (stage_of a) (request_of a).address why) tt)
 
   completed : (a : Access) (v : ℕ) (u : State) (r : Processor) → r.control ≡ Fetch0 → r.locked ≡ p.locked →
-      running (origin p c.map) ≡ (Done, u) → u ≡ shown r (finished (request_of a) c).map → t ≡ Ended Done → q ≡ r →
-      d ≡ finished (request_of a) c → n + 1 ≡ count_of (origin p c.map) + w → At (Execute2 a) A n w p c → Gives A n w (Execute2 a) c t q d
+      running (origin p c.map) ≡ (Done, u) → u ≡ axis_state r (finished (request_of a) c).map → t ≡ Ended Done → q ≡ r →
+      d ≡ finished (request_of a) c → n + 1 ≡ clocks_due (origin p c.map) + w → At (Execute2 a) A n w p c → Gives A n w (Execute2 a) c t q d
   completed a v u r boundary lock left is te qe after count at =
       let none = begun_busy c.transfer None (request_of a) at.0.busy in
-      let total = ap count_of at.0.mid.0 in
+      let total = ap clocks_due at.0.mid.0 in
       given_as A n w (Execute2 a) c t (Ended Done) q r d (finished (request_of a) c) te qe after
       (ending A n w (Execute2 a) p c r (finished (request_of a) c) Done u boundary (lock ∙ at.0.mid.3) refl at.0.mid.0 at.0.mid.1 left is
       (omega (arith, count, none, total)))
 
   execute2_ends : (a : Access) (e : End) → end_in (request_of a) c.map ≡ e →
-      Ends e (completes a p) (stage_of a) (request_of a).address p t q → d ≡ finished (request_of a) c → n + 1 ≡ count_of (origin p c.map) + w →
+      Ends e (completes a p) (stage_of a) (request_of a).address p t q → d ≡ finished (request_of a) c → n + 1 ≡ clocks_due (origin p c.map) + w →
       At (Execute2 a) A n w p c → Gives A n w (Execute2 a) c t q d
   execute2_ends (access.Load x r) (Ok v) is h after count at =
       completed (access.Load x r) v (accessed (access.Load x r) p.pc (Ok v) (origin p c.map)).1 (latching r v p.flags p) refl refl
@@ -198,6 +199,6 @@ module _ (A : State) (n w : ℕ) (p : Processor) (c : Meaning) (t : Answer) (q :
   pub execute2 : (a : Access) → p.control ≡ Execute2 a → At (Execute2 a) A n w p c → Did (row_of (Execute2 a) p) p c t q d →
       Gives A n w (Execute2 a) c t q d
   execute2 a k at did =
-      polling A n w (Execute2 a) p c t q d (request_of a) 1 (count_of (origin p c.map)) (completes a p) (stage_of a) (request_of a).address
+      polling A n w (Execute2 a) p c t q d (request_of a) 1 (clocks_due (origin p c.map)) (completes a p) (stage_of a) (request_of a).address
       k at.0 did (λ v h. (h, at.1)) (λ v. omega arith)
       (λ h after count. execute2_ends a (end_in (request_of a) c.map) refl h after count at)

@@ -5,7 +5,8 @@ use Rattle.std.proofs.Common.{◌≡◌, ℕ, ◌+◌, ◌*◌, ◌≤◌, Bool,
 use Rattle.card.specs.declared.transfer.Direction.TheVariants.{Read}
 use Rattle.card.specs.declared.transfer.Request.{Request}
 use Rattle.card.specs.declared.transfer.Transfer.{Transfer}
-use Rattle.card.specs.Ends.{Map, End, end_of, leaves}
+use Rattle.card.specs.Cells.{Map}
+use Rattle.card.specs.Ends.{End, end_of, leaves}
 use Rattle.card.specs.Meaning.{Meaning}
 use Rattle.isa.specs.declared.fields.Instruction.{Instruction}
 use Rattle.isa.specs.declared.opcodes.Class.{Class}
@@ -25,9 +26,9 @@ use Rattle.clocked.specs.declared.control.Control.{Control}
 use Rattle.clocked.specs.declared.control.Control.TheVariants.{Fetch0, Fetch1, Fetch2, Decode, DispFetch0, DispFetch1, DispFetch2, Execute0, Execute1, Execute2}
 use Rattle.clocked.specs.declared.processor.Processor.{Processor}
 use Rattle.clocked.specs.Calls.{waits_left}
-use Rattle.clocked.specs.Comparison.{count_of, clocks_for}
+use Rattle.clocked.specs.Comparison.{clocks_due, clocks_for}
 use Rattle.clocked.specs.Control.{reads_at, request_of}
-use Rattle.clocked.specs.Processor.{shown}
+use Rattle.clocked.specs.Processor.{axis_state}
 
 -- The state at the last boundary, read off an axis in the middle of an instruction.
 abbrev pub origin : Processor → Map → State
@@ -126,7 +127,7 @@ Requests (Some x) b = x.request ≡ b
 
 -- At the boundary, or halted.
 pub record Rest (A : State) (n w : ℕ) (p : Processor) (m : Meaning) : Type 0 where
-  pub agrees : A ≡ shown p m.map
+  pub agrees : A ≡ axis_state p m.map
   pub idle : m.transfer ≡ None
   pub clocks : n ≡ 0
   pub waits : w ≡ 0
@@ -164,13 +165,13 @@ executed_by Unknown t i s = executed Unknown i s
 -- The instruction i of the state s, of the class k, is fetched.
 pub record Fetched (k : Class) (t : Bool) (i : Instruction) (s : State) : Type 0 where
   pub left : running s ≡ executed_by k t i s
-  pub total : count_of s ≡ clocks_for k t
+  pub total : clocks_due s ≡ clocks_for k t
 
 -- It reads a displacement.
 pub record Displaces (k : Class) (t : Bool) (i : Instruction) (s : State) : Type 0 where
   pub left : running s ≡ displaced (end_of Read (s.map (plus s.pc 1))) s (λ d. resumed k t i s d)
   pub ready : ready_pc k t s.pc ≡ plus s.pc 2
-  pub total : count_of s ≡ 7 + last k
+  pub total : clocks_due s ≡ 7 + last k
 
 -- It has the displacement d, if any, and PC is at pc.
 pub record Ready (k : Class) (t : Bool) (i : Instruction) (d : ℕ) (s : State) (pc : ℕ) : Type 0 where
@@ -191,13 +192,13 @@ At (DispFetch2 i) A n w p m =
     Busy A n w p m (reads_at (plus p.start 1)) 0 6 × (p.pc ≡ plus p.start 2)
     × Displaces (class_in i) (taken_in i p) i (origin p m.map)
 At (Execute0 i d) A n w p m =
-    Idle A n w p m (last (class_in i)) (count_of (origin p m.map))
+    Idle A n w p m (last (class_in i)) (clocks_due (origin p m.map))
     × Ready (class_in i) (taken_in i p) i d (origin p m.map) p.pc
 At (Execute1 a) A n w p m =
-    Idle A n w p m 2 (count_of (origin p m.map))
+    Idle A n w p m 2 (clocks_due (origin p m.map))
     × (running (origin p m.map) ≡ accessed a p.pc (end_in (request_of a) m.map) (origin p m.map))
 At (Execute2 a) A n w p m =
-    Busy A n w p m (request_of a) 1 (count_of (origin p m.map))
+    Busy A n w p m (request_of a) 1 (clocks_due (origin p m.map))
     × (running (origin p m.map) ≡ accessed a p.pc (end_in (request_of a) m.map) (origin p m.map))
 
 abbrev pub Inv : State → ℕ → ℕ → Processor → Meaning → Type 0

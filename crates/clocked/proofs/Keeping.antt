@@ -4,7 +4,7 @@ use Rattle.std.specs.Option.{option_map}
 use Rattle.refusal.specs.declared.Refusal.{Refusal}
 use Rattle.refusal.specs.Unless.{UnlessRefused}
 use Rattle.card.specs.Meaning.{Meaning, idle}
-use Rattle.machine.specs.declared.fault.Fault.{Fault as Record}
+use Rattle.machine.specs.declared.fault.Fault.{Fault}
 use Rattle.machine.specs.Axes.{axis_number}
 use Rattle.machine.specs.State.{State}
 use Rattle.clocked.specs.declared.control.Control.{Control}
@@ -33,7 +33,7 @@ pub record Keeps (A : State) (b : Config) (e : Event) (a : Config) : Type 0 wher
   pub patience : a.card.patience ≡ b.card.patience
 
 -- An axis is at rest exactly in fetch_0, since one that has halted stands there.
-at_fetch0 : (f : Option Record) (k : Control) → is_fetch0 k ≡ true → rests_at f k ≡ true
+at_fetch0 : (f : Option Fault) (k : Control) → is_fetch0 k ≡ true → rests_at f k ≡ true
 at_fetch0 (Some f) k e = refl
 at_fetch0 None k e = e
 
@@ -63,7 +63,7 @@ module _ (A : State) (n w : ℕ) (p : Processor) (c : Meaning) (inv : Inv A n w 
       record {
         laws = laws;
         latched = subst (Latched q.control) (sym same) (subst (λ (k : Control). Latched k A) (sym control) latched);
-        rests = ap (λ (k : Control). rests_at q.fault k) control ∙ ap (λ (f : Option Record). rests_at f p.control) fault ∙ sym rest;
+        rests = ap (λ (k : Control). rests_at q.fault k) control ∙ ap (λ (f : Option Fault). rests_at f p.control) fault ∙ sym rest;
         patience = patience;
       }
 

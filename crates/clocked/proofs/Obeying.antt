@@ -6,14 +6,15 @@ use Rattle.card.specs.declared.cell.Cell.TheVariants.{Absent, Fixed, Open}
 use Rattle.card.specs.declared.transfer.Direction.TheVariants.{Read, Write}
 use Rattle.card.specs.declared.transfer.Request.{Request}
 use Rattle.card.specs.declared.transfer.Transfer.{Transfer}
-use Rattle.card.specs.Ends.{Map, End, end_of, leaves_at, stored}
+use Rattle.card.specs.Cells.{Map}
+use Rattle.card.specs.Ends.{End, end_of, leaves_at, stored}
 use Rattle.card.specs.Meaning.{Meaning, waiting, finished}
 use Rattle.isa.specs.declared.fields.Instruction.{Instruction}
 use Rattle.isa.specs.declared.opcodes.Class.{Class}
 use Rattle.isa.specs.declared.opcodes.Class.TheVariants.{Arithmetic, ArithmeticQuick, Logical, Load, Store, Branch, BranchIndexed, Unknown}
 use Rattle.isa.specs.declared.opcodes.Form.{Form}
 use Rattle.isa.specs.declared.opcodes.Form.TheVariants.{Long, Quick}
-use Rattle.isa.specs.Alu.{Answer as Result}
+use Rattle.isa.specs.Alu.{Answer as AluAnswer}
 use Rattle.isa.specs.Fields.{instruction_of, immediate_of}
 use Rattle.isa.specs.Opcodes.{class_of}
 use Rattle.machine.specs.declared.fault.Stage.{Stage}
@@ -46,7 +47,7 @@ use Rattle.clocked.specs.Table.{Move, on_to, decodes, executes, latches, branche
 use Rattle.clocked.proofs.Executing.{fault_leaves}
 use Rattle.clocked.proofs.Invariant.{At, Mid, Busy, class_in, taken_in, end_in}
 use Rattle.clocked.proofs.Latched.{Latched, IsLong, Executes, AccessOf}
-use Rattle.clocked.proofs.Polling.{Outcome, waits, ends, polled}
+use Rattle.clocked.proofs.Polling.{PollGives, waits, ends, polled}
 
 pub record Obeys (A : State) (k : Control) (t : Answer) (p : Processor) (c : Meaning) (q : Processor) (d : Meaning) : Type 0 where
   pub laws : ClockLaws A (named k) t (config p c) (config q d)
@@ -107,7 +108,7 @@ module _ (A : State) (n w : ℕ) (k : Control) (p : Processor) (c : Meaning) (t 
       goes : (e : Meaning) → d ≡ e → PollsTransfer c.transfer e.transfer
       goes e after = subst (λ (m : Meaning). PollsTransfer c.transfer m.transfer) after (polls_from c.transfer take s a p c t q d did)
 
-      by_outcome : (x : ℕ) → Outcome n w r z b take s a p c t q d x → Obeys A k t p c q d
+      by_outcome : (x : ℕ) → PollGives n w r z b take s a p c t q d x → Obeys A k t p c q d
       by_outcome x (waits v wait same after count) =
           obeys_as A k t Waiting p c q p d (waiting b v c) wait same after
           (record { laws = again v (goes (waiting b v c) after); latched = subst (λ (y : Control). Latched y A) (sym is) latched; rests = ap is_fetch0 is ∙ between; patience = refl })
@@ -324,7 +325,7 @@ module _ (A : State) (i : Instruction) (p : Processor) (c : Meaning) (under : un
           patience = refl;
         }
 
-    latched_as : (x : Class) (r : Result) → class_of i.opcode ≡ x →
+    latched_as : (x : Class) (r : AluAnswer) → class_of i.opcode ≡ x →
         (PutInR3 A (registers_of p) (registers_of (latches r i p).1) → Changes A state.Execute0 (Ended Done) p c (latches r i p).1 c (Some x)) →
         Obeys A (Execute0 i v) (Ended Done) p c (latches r i p).1 c
     latched_as x r class h =

@@ -19,22 +19,22 @@ begun_busy (Some t) u b h = refl
 
 module _ (n w r z : ℕ) (b : Request) (take : ℕ → Move) (s : Stage) (a : ℕ) (p : Processor) (c : Meaning) (t : Answer) (q : Processor) (d : Meaning) where
   -- With so many waits left.
-  pub data Outcome : ℕ → Type 0 where
-    waits : (v : ℕ) → t ≡ Waiting → q ≡ p → d ≡ waiting b v c → n + 1 + v + r ≡ z + w → Outcome (v + 1)
-    ends : Ends (end_in b c.map) take s a p t q → d ≡ finished b c → n + r ≡ z + w → Outcome 0
+  pub data PollGives : ℕ → Type 0 where
+    waits : (v : ℕ) → t ≡ Waiting → q ≡ p → d ≡ waiting b v c → n + 1 + v + r ≡ z + w → PollGives (v + 1)
+    ends : Ends (end_in b c.map) take s a p t q → d ≡ finished b c → n + r ≡ z + w → PollGives 0
 
-  polled_at : (v : ℕ) (x : Request) → x ≡ b → n + v + r ≡ z + w → Polls v x take s a p c t q d → Outcome v
+  polled_at : (v : ℕ) (x : Request) → x ≡ b → n + v + r ≡ z + w → Polls v x take s a p c t q d → PollGives v
   polled_at zero x e count h =
       ends (subst (λ (y : Request). Ends (end_in y c.map) take s a p t q) e h.0) (h.1 ∙ ap (λ (y : Request). finished y c) e)
       (omega arith)
   polled_at (suc v) x e count h =
-      subst Outcome (omega arith) (waits v h.0 h.1 (h.2 ∙ ap (λ (y : Request). waiting y v c) e) (omega arith))
+      subst PollGives (omega arith) (waits v h.0 h.1 (h.2 ∙ ap (λ (y : Request). waiting y v c) e) (omega arith))
 
   polled_from : (x : Option Transfer) → Requests x b → n + waits_left x + r ≡ z + w → PollsFrom x take s a p c t q d →
-      Outcome (waits_left x)
+      PollGives (waits_left x)
   polled_from None e count h = elim e [ ]
   polled_from (Some x) e count h = polled_at x.waits x.request e count h
 
   pub polled : Requests c.transfer b → n + waits_left c.transfer + r ≡ z + w → PollsFrom c.transfer take s a p c t q d →
-      Outcome (waits_left c.transfer)
+      PollGives (waits_left c.transfer)
   polled e count h = polled_from c.transfer e count h

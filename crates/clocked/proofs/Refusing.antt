@@ -3,7 +3,7 @@ use Rattle.std.proofs.Common.{◌≡◌, Bool, false, Some, None, Err, Option, R
 use Rattle.refusal.specs.declared.Refusal.{Refusal}
 use Rattle.refusal.specs.Unless.{UnlessRefused}
 use Rattle.card.specs.Meaning.{Meaning}
-use Rattle.machine.specs.declared.fault.Fault.{Fault as Record}
+use Rattle.machine.specs.declared.fault.Fault.{Fault}
 use Rattle.clocked.specs.declared.processor.Processor.{Processor}
 use Rattle.clocked.specs.declared.tick.Tick.{Tick}
 use Rattle.clocked.specs.declared.tick.Answer.{Answer}
@@ -24,4 +24,4 @@ module _ (p : Processor) (c : Meaning) (q : Processor) (d : Meaning) (e : Refusa
   refused_clock unlocked running h =
       let x : Option Refusal = when_transfer (row_of p.control p) c.transfer in
       subst (λ (l : Bool). UnlessRefused (when_locked l (when_halted p.fault x)) r Same (Accepted r p c q d)) (sym unlocked)
-      (subst (λ (f : Option Record). UnlessRefused (when_halted f x) r Same (Accepted r p c q d)) (sym running) (refuses x h))
+      (subst (λ (f : Option Fault). UnlessRefused (when_halted f x) r Same (Accepted r p c q d)) (sym running) (refuses x h))

@@ -4,7 +4,7 @@ use Rattle.refusal.specs.declared.Refusal.{Refusal}
 use Rattle.refusal.specs.declared.Refusal.TheVariants as refused
 use Rattle.card.specs.Meaning.{Meaning}
 use Rattle.isa.specs.Fields.{instruction_of}
-use Rattle.machine.specs.declared.fault.Fault.{Fault as Record}
+use Rattle.machine.specs.declared.fault.Fault.{Fault}
 use Rattle.machine.specs.declared.machine.Outcome.{Outcome}
 use Rattle.clocked.specs.declared.control.Control.{Control}
 use Rattle.clocked.specs.declared.control.Control.TheVariants as control
@@ -86,7 +86,7 @@ module _ (n : ℕ) (o : Outcome) where
   count_one true c = (Ok (tick c (Ended o)), with c control.Fetch0)
   count_one false c = (Ok (tick c On), with c (control.Execute0 (instruction_of 0) (kept c.processor.control + 1)))
 
-  abbrev count_running : Option Record → Bool → Config → Result Tick Refusal × Config
+  abbrev count_running : Option Fault → Bool → Config → Result Tick Refusal × Config
   count_running (Some f) l c = (Err refused.Halted, c)
   count_running None true c = (Err refused.KeyOut, c)
   count_running None false c = count_one (kept c.processor.control == n) c
@@ -98,7 +98,7 @@ module _ (n : ℕ) (o : Outcome) where
   keeps_one true m c h = record { count = refl; idle = h.idle }
   keeps_one false m c h = record { count = ap (λ (n : ℕ). n + 1) h.count; idle = h.idle }
 
-  keeps_running : (f : Option Record) (l : Bool) (m : ℕ) (c : Config) → Keeps m c → Keeps (since_after (clocked (count_running f l c).0) 1 m) (count_running f l c).1
+  keeps_running : (f : Option Fault) (l : Bool) (m : ℕ) (c : Config) → Keeps m c → Keeps (since_after (clocked (count_running f l c).0) 1 m) (count_running f l c).1
   keeps_running (Some f) l m c h = h
   keeps_running None true m c h = h
   keeps_running None false m c h = keeps_one (kept c.processor.control == n) m c h
@@ -133,7 +133,7 @@ module _ (n : ℕ) (o : Outcome) (c : Config) (idle : c.card.transfer ≡ None) 
   so_one true runs = (refl, begun_same c.card.transfer)
   so_one false runs = ((refl, record { unhalted = runs.unhalted; unlocked = runs.unlocked }, idle), begun_same c.card.transfer)
 
-  so_running : (f : Option Record) (l : Bool) → c.processor.fault ≡ f → c.processor.locked ≡ l →
+  so_running : (f : Option Fault) (l : Bool) → c.processor.fault ≡ f → c.processor.locked ≡ l →
       Clocks (Counting (kept c.processor.control == n) (count_running n o f l c).1) (λ r. IsStopped c) (clocked (count_running n o f l c).0)
   so_running (Some f) l fault lock = λ runs. some_none f (sym fault ∙ runs.unhalted)
   so_running None true fault lock = λ runs. never_both c.processor.locked runs.unlocked lock

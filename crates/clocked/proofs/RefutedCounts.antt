@@ -9,7 +9,7 @@ use Rattle.machine.specs.Step.{step}
 use Rattle.clocked.specs.declared.tick.Answer.{Answer}
 use Rattle.clocked.specs.declared.tick.Answer.TheVariants.{On, Waiting, Ended}
 use Rattle.clocked.specs.declared.tick.Tick.{Tick}
-use Rattle.clocked.specs.Comparison.{begun_in, compared, clocks_since, count_of, since_after, since_by, waits_since}
+use Rattle.clocked.specs.Comparison.{begun_in, compared, clocks_since, clocks_due, since_after, since_by, waits_since}
 use Rattle.clocked.specs.Entries.{Took, Answers}
 use Rattle.clocked.specs.Promise.{Agreement, Timing, Counted, Always, Answering, Starts, Running}
 use Rattle.clocked.specs.Runs.{Config, Event, clocked, reset, drawn, set, given, outcome_by, Entry, events, Run, none, more}
@@ -87,7 +87,7 @@ no_waits (e ∷ es) h = ap (λ (n : ℕ). since_after e.event n (waits_since es)
     nothing (given k r) = refl
 
 -- A finish that took its count.
-finish_took : (o : Option Outcome) → Finishes o → (s : State) (n w : ℕ) → Took o s n w → n + 1 ≡ count_of s + w
+finish_took : (o : Option Outcome) → Finishes o → (s : State) (n w : ℕ) → Took o s n w → n + 1 ≡ clocks_due s + w
 finish_took None f s n w h = absurd f
 finish_took (Some Done) f s n w h = h
 finish_took (Some Ignored) f s n w h = h
@@ -106,7 +106,7 @@ module _ (M : Entry → Type 0) (first : State) (start : Config) (at : Starts fi
       let g : FinishesIf false t.tick t.after = subst (λ (b : Bool). FinishesIf b t.tick t.after) early t.holds.0 in
       record { tick = t.tick; after = t.after; made = t.made; holds = (g.0, g.1, t.holds.1) }
 
-  counts_last : Always M start (Counted first) → count_of first ≡ n + 1
+  counts_last : Always M start (Counted first) → clocks_due first ≡ n + 1
   counts_last h =
       let g = going M (λ e. begun_in e ≡ 0) first start n at.running counts_goes n (omega arith) in
       let t = counts_tick g.c g.es g.run g.running in
@@ -114,7 +114,7 @@ module _ (M : Entry → Type 0) (first : State) (start : Config) (at : Starts fi
       let now : clocks_since (events g.es) == n ≡ true = subst (λ (k : ℕ). k == n ≡ true) (sym g.long) (same_number n) in
       let f : FinishesIf true t.tick t.after = subst (λ (b : Bool). FinishesIf b t.tick t.after) now t.holds.0 in
       let k = finish_took (outcome_by t.tick.answer) f (compared first (events g.es)) (clocks_since (events g.es)) (waits_since g.es + begun_in e) (h e g.es (more _ g.es g.run t.made)) in
-      let same : count_of (compared first (events g.es)) ≡ count_of first = ap (λ (s : State). count_of s) g.same in
+      let same : clocks_due (compared first (events g.es)) ≡ clocks_due first = ap (λ (s : State). clocks_due s) g.same in
       let none : waits_since g.es ≡ 0 = no_waits g.es g.each in
       let here : begun_in e ≡ 0 = t.holds.1 in
       let long : clocks_since (events g.es) ≡ n = g.long in

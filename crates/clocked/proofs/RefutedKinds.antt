@@ -8,7 +8,7 @@ use Rattle.machine.specs.Step.{step}
 use Rattle.isa.specs.Fields.{instruction_of}
 use Rattle.isa.specs.Opcodes.{class_of}
 use Rattle.card.specs.declared.cell.Cell.TheVariants.{Open}
-use Rattle.card.specs.Ends.{Map}
+use Rattle.card.specs.Cells.{Map}
 use Rattle.card.specs.Meaning.{mapped}
 use Rattle.machine.specs.declared.axis.Axis.TheVariants.{One}
 use Rattle.clocked.specs.declared.control.Control.{Control}
@@ -17,9 +17,9 @@ use Rattle.clocked.specs.declared.processor.Processor.{Processor}
 use Rattle.clocked.specs.declared.tick.Answer.{Answer}
 use Rattle.clocked.specs.declared.tick.Answer.TheVariants.{On, Waiting, Ended}
 use Rattle.clocked.specs.declared.tick.Tick.{Tick}
-use Rattle.clocked.specs.Comparison.{clocks_since, begun_in, count_of}
+use Rattle.clocked.specs.Comparison.{clocks_since, begun_in, clocks_due}
 use Rattle.clocked.specs.Control.{named}
-use Rattle.clocked.specs.Processor.{shown, fresh}
+use Rattle.clocked.specs.Processor.{axis_state, fresh}
 use Rattle.clocked.specs.Promise.{Starts}
 use Rattle.clocked.specs.Runs.{Config, Event, clocked, reset, drawn, set, given, events, outcome_by, outcome_of}
 use Rattle.clocked.specs.Wrong.{Exists, Occurs, StartsIn, Changes, DoesNotHalt, TakesOther}
@@ -107,7 +107,7 @@ holding s p =
 
 abbrev working : Control → Does
 working control.Fetch0 c =
-    let s : State = (step (shown c.processor c.card.map)).1 in
+    let s : State = (step (axis_state c.processor c.card.map)).1 in
     (Ok (tick c On), record { processor = holding s c.processor; card = mapped s.map c.card })
 working control.Fetch1 c = (Ok (tick c On), with c control.Fetch2)
 working control.Fetch2 c = (Ok (tick c On), with c (control.Decode (instruction_of 0)))
@@ -163,11 +163,11 @@ start =
       );
     }
 
-takes_five : count_of (powered_up One (memory 0x10050001)) ≡ 5
+takes_five : clocks_due (powered_up One (memory 0x10050001)) ≡ 5
 unfolding class_of
 takes_five = refl
 
-takes_four : count_of (powered_up One (memory 0xff000000)) ≡ 4
+takes_four : clocks_due (powered_up One (memory 0xff000000)) ≡ 4
 unfolding class_of
 takes_four = refl
 

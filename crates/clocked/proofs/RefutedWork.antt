@@ -13,7 +13,7 @@ use Rattle.clocked.specs.Comparison.{compared, compared_after, compared_by}
 use Rattle.clocked.specs.Control.{named}
 use Rattle.clocked.specs.Changes.{written_back, restarting}
 use Rattle.clocked.specs.Refusals.{is_at_rest}
-use Rattle.clocked.specs.Processor.{shown}
+use Rattle.clocked.specs.Processor.{axis_state}
 use Rattle.clocked.specs.Promise.{Agreement, Always, Answering, Starts, Running}
 use Rattle.clocked.specs.Runs.{Config, clocked, reset, Entry, events, Run, none, more, MadeBy, to_reset}
 use Rattle.clocked.specs.Wrong.{FailsFrom, AgreesInDecode, IsResetInDecode, Changes}
@@ -22,12 +22,12 @@ use Rattle.clocked.proofs.RefutedRuns.{entry, reset_at, Ticked, ticked}
 
 -- A reset of an axis whose key is in.
 reset_made : (c d : Config) (r : Result (Unit {0}) Refusal) → MadeBy (reset r) c d → c.processor.locked ≡ false →
-    (r ≡ Ok tt) × (shown d.processor d.card.map ≡ restarted (shown c.processor c.card.map)) × (is_at_rest d.processor ≡ true)
+    (r ≡ Ok tt) × (axis_state d.processor d.card.map ≡ restarted (axis_state c.processor c.card.map)) × (is_at_rest d.processor ≡ true)
 reset_made c d r made unlocked =
     let p : Bool → Processor = λ b. record c.processor { locked = b } in
     let h = subst (λ (b : Bool). MadeBy (reset r) (record { processor = p b; card = c.card }) d) unlocked made in
     let q : d.processor ≡ restarting (written_back (p false)) = h.1 in
-    (h.0, ap (λ (q : Processor). shown q d.card.map) q ∙ ap (λ (m : Meaning). shown (restarting (written_back (p false))) m.map) h.2, ap (λ (q : Processor). is_at_rest q) q)
+    (h.0, ap (λ (q : Processor). axis_state q d.card.map) q ∙ ap (λ (m : Meaning). axis_state (restarting (written_back (p false))) m.map) h.2, ap (λ (q : Processor). is_at_rest q) q)
 
 -- A run of clocks answered on, by which the axis has come to a state and shows what an instruction leaves.
 record Worked (M : Entry → Type 0) (first : State) (start : Config) (k : ControlState) : Type 0 where
@@ -36,7 +36,7 @@ record Worked (M : Entry → Type 0) (first : State) (start : Config) (k : Contr
   run : Run M start es c
   running : Running c
   state : named c.processor.control ≡ k
-  shows : shown c.processor c.card.map ≡ (step first).1
+  shows : axis_state c.processor c.card.map ≡ (step first).1
   same : compared first (events es) ≡ first
 
 module _ (M : Entry → Type 0) (first : State) (start : Config) (changes : Changes first) (answers : Answering M start) (each : Always M start WorksAtOnce) where

@@ -3,7 +3,7 @@ use Rattle.std.proofs.Common.{◌≡◌, ℕ, Bool, true, false, Some, None, Opt
 use Rattle.card.specs.declared.transfer.Request.{Request}
 use Rattle.card.specs.declared.transfer.Transfer.{Transfer}
 use Rattle.card.specs.Meaning.{Meaning}
-use Rattle.machine.specs.declared.fault.Fault.{Fault as Record}
+use Rattle.machine.specs.declared.fault.Fault.{Fault}
 use Rattle.machine.specs.State.{State, plus, restarted}
 use Rattle.clocked.specs.declared.control.Control.{Control}
 use Rattle.clocked.specs.declared.control.Control.TheVariants.{Fetch0, Fetch1, Fetch2, Decode, DispFetch0, DispFetch1, DispFetch2, Execute0, Execute1, Execute2}
@@ -12,7 +12,7 @@ use Rattle.clocked.specs.declared.processor.Processor.{Processor}
 use Rattle.clocked.specs.Refusals.{clock_refusal, is_fetch0, rests_at, when_locked, when_halted, when_transfer}
 use Rattle.clocked.specs.Control.{reads_at, request_of}
 use Rattle.clocked.specs.Changes.{written_back, restarting}
-use Rattle.clocked.specs.Processor.{shown, storing}
+use Rattle.clocked.specs.Processor.{axis_state, storing}
 use Rattle.clocked.specs.Table.{row_of}
 use Rattle.clocked.proofs.Invariant.{At, Mid, Rest, Requests}
 use Rattle.clocked.proofs.Steps.{never_both}
@@ -39,7 +39,7 @@ pub running_refusal : (p : Processor) (c : Meaning) → p.fault ≡ None → p.l
     clock_refusal p c ≡ when_transfer (row_of p.control p) c.transfer
 running_refusal p c unhalted unlocked =
     ap (λ (x : Bool). when_locked x (when_halted p.fault (when_transfer (row_of p.control p) c.transfer))) unlocked
-    ∙ ap (λ (x : Option Record). when_halted x (when_transfer (row_of p.control p) c.transfer)) unhalted
+    ∙ ap (λ (x : Option Fault). when_halted x (when_transfer (row_of p.control p) c.transfer)) unhalted
 
 -- A request in being is a transfer.
 in_being : (b : Request) (x : Option Transfer) → Requests x b → (y : Transfer) × (x ≡ Some y)
@@ -67,13 +67,13 @@ module _ (A : State) (n w : ℕ) (p : Processor) (m : Meaning) where
 
   -- In the middle of an instruction an axis is not at rest.
   pub not_resting : is_fetch0 p.control ≡ false → Mid A p m → rests_at p.fault p.control ≡ false
-  not_resting k h = ap (λ (x : Option Record). rests_at x p.control) h.1 ∙ k
+  not_resting k h = ap (λ (x : Option Fault). rests_at x p.control) h.1 ∙ k
 
-  pub agreeing : Where p.control A n w p m → rests_at p.fault p.control ≡ true → shown p m.map ≡ A
+  pub agreeing : Where p.control A n w p m → rests_at p.fault p.control ≡ true → axis_state p m.map ≡ A
   agreeing (rests k h) at = sym h.agrees
   agreeing (goes k h) at = elim (never_both _ (not_resting k h) at) [ ]
 
-  pub restarting_as : Where p.control A n w p m → restarted A ≡ shown (restarting (written_back p)) m.map
+  pub restarting_as : Where p.control A n w p m → restarted A ≡ axis_state (restarting (written_back p)) m.map
   restarting_as (rests k h) = ap restarted h.agrees
   restarting_as (goes k h) =
       ap restarted h.0

@@ -4,7 +4,7 @@ use Rattle.std.specs.Prelude.{◌≡◌, Bool, true, false, None, Ok, Option, Re
 use Rattle.refusal.specs.declared.Refusal.{Refusal}
 use Rattle.refusal.specs.Unless.{UnlessRefused}
 use Rattle.card.specs.Ends.{End}
-use Rattle.card.specs.Meaning.{Meaning, Answered}
+use Rattle.card.specs.Meaning.{Meaning, Polled}
 use Rattle.clocked.specs.declared.processor.Processor.{Processor}
 use Rattle.clocked.specs.declared.tick.Answer.{Answer}
 use Rattle.clocked.specs.Calls.{Did}
@@ -17,7 +17,7 @@ NotAsked c r d = (r ≡ Ok None) × (d ≡ c)
 abbrev pub PolledFor : Row → Meaning → Result (Option End) Refusal → Meaning → Type 0
 PolledFor (moves m) c r d = NotAsked c r d
 PolledFor (begins b q) c r d = NotAsked c r d
-PolledFor (polls take s a) c r d = Answered c r d
+PolledFor (polls take s a) c r d = Polled c r d
 
 abbrev pub is_poll : Row → Bool
 is_poll (moves m) = false

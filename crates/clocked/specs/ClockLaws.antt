@@ -6,7 +6,8 @@ use Rattle.std.specs.Prelude.{◌≡◌, ℕ, List, [], ◌∷◌, Contains, Som
 use Rattle.std.specs.Option.{option_map}
 use Rattle.card.specs.declared.transfer.Direction.TheVariants.{Read}
 use Rattle.card.specs.declared.transfer.Transfer.{Transfer}
-use Rattle.card.specs.Ends.{Map, End, end_of, stored}
+use Rattle.card.specs.Cells.{Map}
+use Rattle.card.specs.Ends.{End, end_of, stored}
 use Rattle.card.specs.Ports.{after_wait}
 use Rattle.isa.specs.declared.fields.Instruction.{Instruction}
 use Rattle.isa.specs.declared.flags.Flags.{Flags}
@@ -26,7 +27,7 @@ use Rattle.clocked.specs.declared.tick.Answer.{Answer}
 use Rattle.clocked.specs.declared.tick.Answer.TheVariants.{On, Waiting, Ended}
 use Rattle.clocked.specs.declared.tick.Tick.{Tick}
 use Rattle.clocked.specs.Control.{named}
-use Rattle.clocked.specs.Processor.{shown}
+use Rattle.clocked.specs.Processor.{axis_state}
 use Rattle.clocked.specs.Runs.{Config}
 
 -- The instruction that is fetched where such a read ends, if it ends with a word.
@@ -113,7 +114,7 @@ following Execute2 = (Waiting, Execute2) ∷ ((Ended Done, Fetch0) ∷ ((Ended H
 
 -- An accepted clock in the state k that answers t, from b to a.
 pub record ClockLaws (s : State) (k : ControlState) (t : Answer) (b a : Config) : Type 0 where
-  pub registers : RegistersChange k t (class_under_way s) s (shown b.processor b.card.map).registers (shown a.processor a.card.map).registers
+  pub registers : RegistersChange k t (class_under_way s) s (axis_state b.processor b.card.map).registers (axis_state a.processor a.card.map).registers
   pub cells : CellsChange k t (class_under_way s) s b.card.map a.card.map
   pub flags : FlagsChange k (class_under_way s) b.processor.flags a.processor.flags
   pub pc : PcChanges t k (class_under_way s) s b.processor.pc a.processor.pc

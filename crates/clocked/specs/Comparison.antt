@@ -67,8 +67,8 @@ abbrev pub count_fetched : End → State → ℕ
 count_fetched (Ok w) s = clocks_for (class_of (instruction_of w).opcode) (taken_by (instruction_of w).mask s.flags)
 count_fetched (Err why) s = 0
 
-abbrev pub count_of : State → ℕ
-count_of s = count_fetched (end_of Read (s.map s.pc)) s
+abbrev pub clocks_due : State → ℕ
+clocks_due s = count_fetched (end_of Read (s.map s.pc)) s
 
 -- A sum over the calls since the boundary, to which a call adds n: an end of an instruction and an accepted reset lead to one.
 abbrev pub since_by : Answer → ℕ → ℕ → ℕ

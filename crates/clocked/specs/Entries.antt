@@ -8,7 +8,7 @@ use Rattle.machine.specs.State.{State}
 use Rattle.machine.specs.Step.{step}
 use Rattle.clocked.specs.declared.tick.Tick.{Tick}
 use Rattle.clocked.specs.Calls.{Accepted}
-use Rattle.clocked.specs.Comparison.{count_of}
+use Rattle.clocked.specs.Comparison.{clocks_due}
 use Rattle.clocked.specs.Refusals.{clock_refusal, reset_refusal, draw_refusal, key_refusal, fits}
 use Rattle.clocked.specs.Runs.{Config, Event, clocked, reset, drawn, set, given}
 
@@ -25,8 +25,8 @@ DidRow (Some t) b a = Accepted (Ok t) b.processor b.card a.processor a.card
 -- A finished instruction took its own count and its waits: n are the clocks before its last one, w the waits with it.
 abbrev pub Took : Option Outcome → State → ℕ → ℕ → Type 0
 Took None s n w = Unit {0}
-Took (Some Done) s n w = n + 1 ≡ count_of s + w
-Took (Some Ignored) s n w = n + 1 ≡ count_of s + w
+Took (Some Done) s n w = n + 1 ≡ clocks_due s + w
+Took (Some Ignored) s n w = n + 1 ≡ clocks_due s + w
 Took (Some Halted) s n w = Unit {0}
 
 -- The refusal that a call answered, and the one that it has to answer.

@@ -1,7 +1,7 @@
 -- A processor as it is at power-up, and what an axis shows.
--- A reader must believe: a pending result counts as stored, and `shown` is what an axis shows of itself and its memory.
+-- A reader must believe: a pending result counts as stored, and `axis_state` is what an axis shows of itself and its memory.
 use Rattle.std.specs.Prelude.{ℕ, false, List, Some, None, Option}
-use Rattle.card.specs.Ends.{Map}
+use Rattle.card.specs.Cells.{Map}
 use Rattle.machine.specs.declared.axis.Axis.{Axis}
 use Rattle.machine.specs.Registers.{cleared, put}
 use Rattle.machine.specs.State.{State, clear_flags}
@@ -18,8 +18,8 @@ abbrev pub registers_of : Processor → List ℕ
 registers_of p = storing p.pending p.registers.words
 
 -- What the axis shows, with the map of its card: its state, a pending result counted as stored.
-abbrev pub shown : Processor → Map → State
-shown p f =
+abbrev pub axis_state : Processor → Map → State
+axis_state p f =
     record {
       axis = p.axis;
       registers = registers_of p;

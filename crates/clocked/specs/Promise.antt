@@ -12,14 +12,14 @@ use Rattle.clocked.specs.ClockLaws.{KeepsClockLaws}
 use Rattle.clocked.specs.Entries.{Answers, DidRow, Took, refusal_of, refusal_due, Unchanged, KeyStays, KeyFits}
 use Rattle.clocked.specs.Refusals.{is_at_rest}
 use Rattle.clocked.specs.Comparison.{compared, clocks_since, begun_in, waits_since, key_out, at_rest}
-use Rattle.clocked.specs.Processor.{shown}
+use Rattle.clocked.specs.Processor.{axis_state}
 use Rattle.clocked.specs.Runs.{Config, Call, call_of, outcome_of, tick_of, Event, clocked, reset, drawn, set, given, Entry, events, Run, Made}
 
 -- Agreement with the comparison machine after the entry e, which came after the entries es.
 pub record Agreement (first : State) (es : List Entry) (e : Entry) : Type 0 where
   -- at a boundary or a halt, the axis shows what the comparison machine has
   pub shows : is_at_rest e.after.processor ≡ true →
-      shown e.after.processor e.after.card.map ≡ compared first (events (e ∷ es))
+      axis_state e.after.processor e.after.card.map ≡ compared first (events (e ∷ es))
   pub answers : Answers (outcome_of e.event) (compared first (events es))
   -- halted exactly while the comparison machine has a fault
   pub halted : is_some e.after.processor.fault ≡ is_some (compared first (events (e ∷ es))).fault
@@ -79,7 +79,7 @@ pub record Starts (first : State) (start : Config) : Type 0 where
   pub boundary : start.processor.control ≡ Fetch0
   pub running : Running start
   pub idle : start.card.transfer ≡ None
-  pub agrees : shown start.processor start.card.map ≡ first
+  pub agrees : axis_state start.processor start.card.map ≡ first
 
 -- Wherever the axis runs and the next 10 + 3 × patience calls are clocks, one of them ends an instruction.
 abbrev pub Progress : (Entry → Type 0) → Config → Type 0

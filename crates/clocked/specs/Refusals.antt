@@ -1,11 +1,11 @@
 -- When a call is refused, and by which refusal.
 -- A reader must believe: these conditions, and their order.
-use Rattle.std.specs.Prelude.{Bool, true, false, cond, not, ◌&&◌, is_none, Some, None, Option, ◌==◌}
+use Rattle.std.specs.Prelude.{Bool, true, false, not, ◌&&◌, is_none, Some, None, Option, ◌==◌, if◌then◌else◌}
 use Rattle.refusal.specs.declared.Refusal.{Refusal}
 use Rattle.refusal.specs.declared.Refusal.TheVariants as refused
 use Rattle.card.specs.declared.transfer.Transfer.{Transfer}
 use Rattle.card.specs.Meaning.{Meaning}
-use Rattle.machine.specs.declared.fault.Fault.{Fault as Record}
+use Rattle.machine.specs.declared.fault.Fault.{Fault}
 use Rattle.machine.specs.Axes.{axis_number}
 use Rattle.clocked.specs.declared.control.Control.{Control}
 use Rattle.clocked.specs.declared.control.Control.TheVariants.{Fetch0, Fetch1, Fetch2, Decode, DispFetch0, DispFetch1, DispFetch2, Execute0, Execute1, Execute2}
@@ -18,7 +18,7 @@ abbrev pub when_locked : Bool → Option Refusal → Option Refusal
 when_locked true e = Some refused.KeyOut
 when_locked false e = e
 
-abbrev pub when_halted : Option Record → Option Refusal → Option Refusal
+abbrev pub when_halted : Option Fault → Option Refusal → Option Refusal
 when_halted (Some f) e = Some refused.Halted
 when_halted None e = e
 
@@ -53,7 +53,7 @@ is_fetch0 (Execute0 i d) = false
 is_fetch0 (Execute1 a) = false
 is_fetch0 (Execute2 a) = false
 
-abbrev pub rests_at : Option Record → Control → Bool
+abbrev pub rests_at : Option Fault → Control → Bool
 rests_at (Some f) k = true
 rests_at None k = is_fetch0 k
 
@@ -61,11 +61,11 @@ abbrev pub is_at_rest : Processor → Bool
 is_at_rest p = rests_at p.fault p.control
 
 abbrev pub draw_refusal : Processor → Option Refusal
-draw_refusal p = when_locked p.locked (cond (is_at_rest p) None (Some refused.NoBoundary))
+draw_refusal p = when_locked p.locked (if is_at_rest p then None else Some refused.NoBoundary)
 
 -- A key fits exactly if the axis is equal and the key is out.
 abbrev pub fits : Key → Processor → Bool
 fits k p = k.axis == axis_number p.axis && p.locked
 
 abbrev pub key_refusal : Key → Processor → Option Refusal
-key_refusal k p = cond (fits k p) None (Some refused.Misfit)
+key_refusal k p = if fits k p then None else Some refused.Misfit

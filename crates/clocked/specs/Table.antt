@@ -7,7 +7,7 @@ use Rattle.isa.specs.declared.opcodes.Class.{Class}
 use Rattle.isa.specs.declared.opcodes.Class.TheVariants.{Arithmetic, ArithmeticQuick, Logical, Load, Store, Branch, BranchIndexed, Unknown}
 use Rattle.isa.specs.declared.opcodes.Form.{Form}
 use Rattle.isa.specs.declared.opcodes.Form.TheVariants.{Long, Quick}
-use Rattle.isa.specs.Alu.{Answer as Result, alu_of, logic_of}
+use Rattle.isa.specs.Alu.{Answer as AluAnswer, alu_of, logic_of}
 use Rattle.isa.specs.Branch.{taken_by}
 use Rattle.isa.specs.Fields.{instruction_of, immediate_of}
 use Rattle.isa.specs.Opcodes.{class_of}
@@ -71,7 +71,7 @@ abbrev pub register : Processor → ℕ → ℕ
 register p r = read p.registers.words r
 
 -- A result with its flags is latched for r3.
-abbrev pub latches : Result → Instruction → Processor → Move
+abbrev pub latches : AluAnswer → Instruction → Processor → Move
 latches a i p = (Ended Done, latching i.r3 a.0 (record { v = a.1; n = a.2; z = a.3 }) p)
 
 -- PC past the displacement that a branch not taken has not read.

@@ -9,7 +9,7 @@ use Rattle.machine.specs.Step.{step}
 use Rattle.clocked.specs.declared.control.ControlState.TheVariants.{Decode}
 use Rattle.clocked.specs.declared.tick.Answer.{Answer}
 use Rattle.clocked.specs.declared.tick.Answer.TheVariants.{On, Waiting, Ended}
-use Rattle.clocked.specs.Comparison.{count_of}
+use Rattle.clocked.specs.Comparison.{clocks_due}
 use Rattle.clocked.specs.Control.{named}
 use Rattle.clocked.specs.Promise.{Agreement, Timing, Counted, Refusing, Always, Starts, Progress}
 use Rattle.clocked.specs.Runs.{Config, call_of, to_reset, Entry}
@@ -70,7 +70,7 @@ abbrev pub DoesNotHalt : State → Type 0
 DoesNotHalt s = (step s).0 ≡ Some Halted → ⊥
 
 abbrev pub TakesOther : ℕ → State → Type 0
-TakesOther n s = count_of s ≡ n → ⊥
+TakesOther n s = clocks_due s ≡ n → ⊥
 
 -- An axis starts in a state of which S holds.
 pub record StartsIn (S : State → Type 0) : Type 0 where

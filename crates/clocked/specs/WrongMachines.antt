@@ -14,7 +14,7 @@ use Rattle.clocked.specs.declared.tick.Answer.TheVariants.{On, Waiting, Ended}
 use Rattle.clocked.specs.declared.tick.Tick.{Tick}
 use Rattle.clocked.specs.Comparison.{clocks_since, begun_in}
 use Rattle.clocked.specs.Control.{named}
-use Rattle.clocked.specs.Processor.{shown}
+use Rattle.clocked.specs.Processor.{axis_state}
 use Rattle.clocked.specs.Promise.{Always, Answering, Running}
 use Rattle.clocked.specs.Refusals.{clock_refusal}
 use Rattle.clocked.specs.Runs.{Config, Call, call_of, Event, clocked, reset, drawn, set, given, Entry, events, outcome_by, outcome_of, MadeBy}
@@ -70,15 +70,15 @@ NeverEnds K es e = K es e × (outcome_of e.event ≡ None)
 pub record GoesTo (k : ControlState) (s : State) (b : Config) (t : Tick) (a : Config) : Type 0 where
   pub on : t.answer ≡ On
   pub next : named a.processor.control ≡ k
-  pub shows : shown a.processor a.card.map ≡ s
+  pub shows : axis_state a.processor a.card.map ≡ s
   pub lock : a.processor.locked ≡ b.processor.locked
 
 -- In fetch_0 all the work of an instruction that meets no fault, nothing in fetch_1 and fetch_2, anything from decode on.
 abbrev pub Works : ControlState → Config → Tick → Config → Type 0
 Works Fetch0 b t a =
-    (step (shown b.processor b.card.map)).1.fault ≡ None → GoesTo Fetch1 (step (shown b.processor b.card.map)).1 b t a
-Works Fetch1 b t a = GoesTo Fetch2 (shown b.processor b.card.map) b t a
-Works Fetch2 b t a = GoesTo Decode (shown b.processor b.card.map) b t a
+    (step (axis_state b.processor b.card.map)).1.fault ≡ None → GoesTo Fetch1 (step (axis_state b.processor b.card.map)).1 b t a
+Works Fetch1 b t a = GoesTo Fetch2 (axis_state b.processor b.card.map) b t a
+Works Fetch2 b t a = GoesTo Decode (axis_state b.processor b.card.map) b t a
 Works _ b t a = Unit {0}
 
 abbrev pub WorksIn : Event → Config → Config → Type 0

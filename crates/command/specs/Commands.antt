@@ -1,7 +1,7 @@
 -- The command that the words after a command's first word make, command by command.
 -- They are read from left to right, and the first that is wrong decides; words too many come last.
 -- A reader must believe the operands of each command and their limits.
-use Rattle.std.specs.Prelude.{ℕ, ◌+◌, ◌^◌, cond, List, [], ◌∷◌, Ok, Err, Result, nat_le}
+use Rattle.std.specs.Prelude.{ℕ, ◌+◌, ◌^◌, List, [], ◌∷◌, Ok, Err, Result, nat_le, if◌then◌else◌}
 use Rattle.command.specs.declared.Command.{Command}
 use Rattle.command.specs.declared.Command.TheVariants.{Card, Words, Layer, Load, Power, Clock, Instruction, Set}
 use Rattle.command.specs.declared.Command.TheVariants.{Look, Memory, Place}
@@ -35,7 +35,7 @@ number ws next = taking (operand_of ws) next
 abbrev pub card_of : List (List ℕ) → Result Command Wrong
 card_of ws =
     taking (bottom_of ws)
-    (λ kind ws. number ws (λ n ws. cond (nat_le n 65536) (only ws (Card kind n)) (Err CardTooLarge)))
+    (λ kind ws. number ws (λ n ws. if nat_le n 65536 then only ws (Card kind n) else Err CardTooLarge))
 
 -- at least one word to store
 abbrev pub stored : ℕ → Result (List ℕ) Wrong → Result Command Wrong
@@ -53,13 +53,15 @@ abbrev pub guard_of : List (List ℕ) → Result Command Wrong
 guard_of ws = number ws (λ first ws. number ws (λ last ws. only ws (Layer (Guard first last))))
 
 abbrev pub slow_of : List (List ℕ) → Result Command Wrong
-slow_of ws = number ws (λ n ws. cond (nat_le n 255) (only ws (Layer (Slow n))) (Err SlowTooLarge))
+slow_of ws = number ws (λ n ws. if nat_le n 255 then only ws (Layer (Slow n)) else Err SlowTooLarge)
 
 abbrev pub layer_of : List (List ℕ) → Result Command Wrong
 layer_of [] = Err MissingOperand
 layer_of (w ∷ ws) =
-    cond (spells w "offset") (offset_of ws)
-    (cond (spells w "guard") (guard_of ws) (cond (spells w "slow") (slow_of ws) (Err UnknownLayer)))
+    if spells w "offset" then offset_of ws
+    else if spells w "guard" then guard_of ws
+    else if spells w "slow" then slow_of ws
+    else Err UnknownLayer
 
 -- a file's name is any word
 abbrev pub load_of : List (List ℕ) → Result Command Wrong
@@ -78,7 +80,7 @@ instruction_of ws = taking (count_of ws) (λ n ws. only ws (Instruction n))
 abbrev pub set_of : List (List ℕ) → Result Command Wrong
 set_of ws =
     number ws
-    (λ n ws. cond (nat_le n 255) (number ws (λ w ws. only ws (Set n w))) (Err RegisterTooLarge))
+    (λ n ws. if nat_le n 255 then number ws (λ w ws. only ws (Set n w)) else Err RegisterTooLarge)
 
 abbrev pub look_of : List (List ℕ) → Result Command Wrong
 look_of ws = number ws (λ a ws. only ws (Look a))
@@ -86,7 +88,7 @@ look_of ws = number ws (λ a ws. only ws (Look a))
 abbrev pub memory_of : List (List ℕ) → Result Command Wrong
 memory_of ws =
     number ws
-    (λ a ws. number ws (λ n ws. cond (nat_le (a + n) (2 ^ 32)) (only ws (Memory a n)) (Err PastLastAddress)))
+    (λ a ws. number ws (λ n ws. if nat_le (a + n) (2 ^ 32) then only ws (Memory a n) else Err PastLastAddress))
 
 abbrev pub place_of : List (List ℕ) → Result Command Wrong
 place_of ws = number ws (λ a ws. number ws (λ w ws. only ws (Place a w)))

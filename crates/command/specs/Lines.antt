@@ -1,7 +1,7 @@
 -- The whole grammar: which command a line is, or what is wrong with it.
 -- The tests come in this order: the bytes before the comment, the first word, the operands from left to right,
 -- words too many. A reader must believe that the definitions below and those that they cite are the bench's format.
-use Rattle.std.specs.Prelude.{ℕ, cond, List, [], ◌∷◌, Some, None, Ok, Err, Option, Result}
+use Rattle.std.specs.Prelude.{ℕ, List, [], ◌∷◌, Some, None, Ok, Err, Option, Result, if◌then◌else◌}
 use Rattle.std.specs.Result.{result_map_both}
 use Rattle.command.specs.declared.Command.{Command}
 use Rattle.command.specs.declared.Command.TheVariants as the
@@ -48,4 +48,4 @@ command_of (w ∷ ws) = after (keyword_of w) ws
 
 -- a bad byte comes before all else
 abbrev pub line_of : List ℕ → Result (Option Command) Wrong
-line_of line = cond (any_bad (before_comment line)) (Err BadByte) (command_of (words_of (before_comment line)))
+line_of line = if any_bad (before_comment line) then Err BadByte else command_of (words_of (before_comment line))

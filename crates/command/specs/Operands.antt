@@ -1,6 +1,6 @@
 -- The operands of a command, taken one after the other from the words that follow its first word.
 -- A reader must believe that a missing operand, and one that is wrong, is reported as that.
-use Rattle.std.specs.Prelude.{◌≡◌, ℕ, cond, List, [], ◌∷◌, Ok, Err, Result, MatchResult}
+use Rattle.std.specs.Prelude.{◌≡◌, ℕ, List, [], ◌∷◌, Ok, Err, Result, MatchResult, if◌then◌else◌}
 use Rattle.std.specs.Borrow.{Bor}
 use Rattle.command.specs.declared.Wrong.{Wrong}
 use Rattle.command.specs.declared.Wrong.TheVariants.{MissingOperand, UnknownCard, UnknownMachine}
@@ -34,7 +34,7 @@ abbrev pub TakesWord : Result (Bor (List ℕ)) Wrong → List (List ℕ) → Lis
 TakesWord r ws us = MatchResult r (λ w. us ≡ w.now ∷ ws) (λ e. (us ≡ []) × (e ≡ MissingOperand))
 
 abbrev pub bottom_named : List ℕ → Result Bottom Wrong
-bottom_named w = cond (spells w "word") (Ok Word) (cond (spells w "boot") (Ok Boot) (Err UnknownCard))
+bottom_named w = if spells w "word" then Ok Word else if spells w "boot" then Ok Boot else Err UnknownCard
 
 -- the bottom card that the words begin with, and the other words
 abbrev pub bottom_of : List (List ℕ) → Result (Bottom × List (List ℕ)) Wrong
@@ -42,7 +42,7 @@ bottom_of [] = Err MissingOperand
 bottom_of (w ∷ ws) = with (bottom_named w) ws
 
 abbrev pub machine_named : List ℕ → Result MachineKind Wrong
-machine_named w = cond (spells w "clock") (Ok ByClock) (cond (spells w "instruction") (Ok ByInstruction) (Err UnknownMachine))
+machine_named w = if spells w "clock" then Ok ByClock else if spells w "instruction" then Ok ByInstruction else Err UnknownMachine
 
 -- the machine that the words begin with, and the other words
 abbrev pub machine_of : List (List ℕ) → Result (MachineKind × List (List ℕ)) Wrong

@@ -1,6 +1,6 @@
 -- The words of a line. A `#` starts a comment, and spaces and tabs part the words before it.
 -- A reader must believe that 35 is `#`, 32 the space, 9 the tab and 13 the carriage return.
-use Rattle.std.specs.Prelude.{ℕ, Bool, cond, ◌||◌, List, [], ◌∷◌, ◌++◌, codes, ◌==◌, nat_le}
+use Rattle.std.specs.Prelude.{ℕ, Bool, ◌||◌, List, [], ◌∷◌, ◌++◌, codes, ◌==◌, nat_le, if◌then◌else◌}
 use Prim.Native.String.{String}
 use Rattle.std.specs.List.{before_first, list_any}
 use Rattle.std.specs.Str.{bytes_eq}
@@ -27,7 +27,7 @@ ended (b ∷ w) ws = (b ∷ w) ∷ ws
 -- the words of a text whose first word goes on from w
 abbrev pub words_after : List ℕ → List ℕ → List (List ℕ)
 words_after w [] = ended w []
-words_after w (b ∷ bs) = cond (blank b) (ended w (words_after [] bs)) (words_after (w ++ b ∷ []) bs)
+words_after w (b ∷ bs) = if blank b then ended w (words_after [] bs) else words_after (w ++ b ∷ []) bs
 
 abbrev pub words_of : List ℕ → List (List ℕ)
 words_of bs = words_after [] bs

@@ -38,9 +38,9 @@ abbrev pub LineAnswered : Fields → List ℕ → Result ℕ Refusal → List �
 LineAnswered = AnsweredAs (λ r. r)
 
 -- C has no `Result`: it is told the length, or minus the refusal's number
-abbrev pub signed : Result ℕ Refusal → ℤ
-signed (Ok n) = pos n
-signed (Err refusal) = neg_ℤ (pos (number_of refusal))
+abbrev pub c_answer : Result ℕ Refusal → ℤ
+c_answer (Ok n) = pos n
+c_answer (Err refusal) = neg_ℤ (pos (number_of refusal))
 
-abbrev pub Answered : Fields → MutBor (List ℕ) → ℤ → MutBor (List ℕ) → Type 0
-Answered f before r after = AnsweredAs signed f before.now r after.now
+abbrev pub CLineAnswered : Fields → MutBor (List ℕ) → ℤ → MutBor (List ℕ) → Type 0
+CLineAnswered f before r after = AnsweredAs c_answer f before.now r after.now

@@ -1,7 +1,7 @@
 // The fault line for a panel written in C: the library's call under its exported name.
 #![tactic(auto)]
 
-ghost use Rattle.fault_line.specs.Answer.{Answered, fault};
+ghost use Rattle.fault_line.specs.Answer.{CLineAnswered, fault};
 
 use fault_line::{Fields, write_line};
 
@@ -18,7 +18,7 @@ pub extern "C" fn dp32_fault_line(
     layer: u32,
     line: &mut [u8],
 ) -> i32
-    ensures { Answered (fault axis stage instruction access cause origin layer) line.entry result line.exit }
+    ensures { CLineAnswered (fault axis stage instruction access cause origin layer) line.entry result line.exit }
 {
     let fields = Fields {
         axis,

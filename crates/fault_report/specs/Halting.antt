@@ -3,7 +3,7 @@
 use Rattle.std.specs.Prelude.{◌≡◌, ℕ, List, [], ◌∷◌, ◌++◌, Some, codes, replicate}
 use Rattle.std.specs.List.{AllByRecursion}
 use Rattle.card.specs.Bottom.{fixed_cells, open_cells}
-use Rattle.card.specs.Ends.{Map}
+use Rattle.card.specs.Cells.{Map}
 use Rattle.fault_line.specs.Line.{line_of}
 use Rattle.machine.specs.declared.axis.Axis.{Axis}
 use Rattle.machine.specs.declared.axis.Axis.TheVariants.{One, Two, Three}

@@ -8,7 +8,8 @@ use Rattle.card.specs.Causes.{cause_number}
 use Rattle.fault_line.specs.declared.Fields.{Fields}
 use Rattle.fault_line.specs.Answer.{Written}
 use Rattle.machine.specs.declared.fault.Fault.{Fault}
-use Rattle.machine.specs.Axes.{axis_number, stage_number}
+use Rattle.machine.specs.Faults.{stage_number}
+use Rattle.machine.specs.Axes.{axis_number}
 
 abbrev pub fields_of : Fault → Fields
 fields_of f =

@@ -2,8 +2,8 @@
 use Rattle.std.proofs.Common.{◌≡◌, ℕ, zero, suc, ◌+◌, ◌<◌, ◌≤◌, Bool, true, false, cond, not, List, Option, None, Some, find, map, refl, sym, ap, ◌∙◌, subst, inl, inr, arith}
 use Rattle.std.specs.List.{range_with_len}
 use Rattle.std.proofs.lemmas.Bool.{cases_lt}
-use Rattle.card.specs.Ends.{Map}
-use Rattle.image.specs.Words.{cell_is_open, words_in, OpenFrom, closed_in}
+use Rattle.card.specs.Cells.{Map, cell_is_open}
+use Rattle.image.specs.Words.{words_in, OpenFrom, closed_in}
 
 -- The first address that is not open, from the first one on, up to and without the last.
 abbrev pub FirstClosedIn : Map → ℕ → ℕ → Option ℕ → Type 0

@@ -4,13 +4,13 @@ use Rattle.std.proofs.lemmas.Bool.{cases_lt}
 use Rattle.std.proofs.lemmas.Grind.{common_steps}
 use Rattle.std.proofs.lemmas.Bool.Decides.{nat_tests}
 use Rattle.card.specs.declared.cell.Cell.TheVariants.{Open}
-use Rattle.card.specs.Ends.{Map}
+use Rattle.card.specs.Cells.{Map, cell_is_open}
 use Rattle.card.specs.Meaning.{Meaning, mapped, Placed}
 use Rattle.refusal.specs.declared.Refusal.{Refusal}
 use Rattle.image.specs.declared.image.Image.{Image}
 use Rattle.image.specs.declared.segment.Segment.{Segment}
-use Rattle.image.specs.Directory.{count_of, offset_of, length_of, end_of, part_of, Right}
-use Rattle.image.specs.Words.{cell_is_open, words_in, word_in, OpenFrom, laid}
+use Rattle.image.specs.Directory.{pair_count, offset_of, length_of, end_of, part_of, Right}
+use Rattle.image.specs.Words.{words_in, word_in, OpenFrom, laid}
 use Rattle.image.specs.Check.{bytes_of}
 use Rattle.image.specs.Segments.{Shown}
 use Rattle.image.specs.Placing.{Holds, AllOpen, FirstClosed, Lays, Laid}
@@ -19,13 +19,13 @@ use Rattle.image.proofs.Pairs.{apart, part_words}
 -- Segment n of a right image has the offset o and the bytes part.
 pub record Here (bs : List ℕ) (n o : ℕ) (part : List ℕ) : Type 0 where
   pub right : Right bs
-  pub within : n < count_of bs
+  pub within : n < pair_count bs
   pub begins : o ≡ offset_of bs n
   pub reads : part ≡ part_of bs n
 
-pub shown : (i : Image) (n : ℕ) (s : Segment) → Shown (bytes_of i) n (Some s)
+pub segment_here : (i : Image) (n : ℕ) (s : Segment) → Shown (bytes_of i) n (Some s)
     → Here (bytes_of i) n s.offset s.words.now
-shown i n s (l, e, p) = record { right = i.right; within = l; begins = e; reads = p }
+segment_here i n s (l, e, p) = record { right = i.right; within = l; begins = e; reads = p }
 
 laid_in : (o : ℕ) (part : List ℕ) (k : ℕ) (f : Map) (j : ℕ) → j < k → laid o part k f (o + j) ≡ Open (word_in part j)
 laid_in o part k f j l = grind (arith, nat_tests)
@@ -47,7 +47,7 @@ module _ {bs : List ℕ} {n o : ℕ} {part : List ℕ} (h : Here bs n o part) wh
   below = omega (arith, ends, h.right.1 n h.within)
 
   earlier : (m : ℕ) → m < n → end_of bs m ≤ o
-  earlier m i = omega (arith, apart bs (count_of bs) h.right.1 m n i h.within, h.begins)
+  earlier m i = omega (arith, apart bs (pair_count bs) h.right.1 m n i h.within, h.begins)
 
   -- No earlier segment has an address of this one.
   fresh : (a : ℕ) → o ≤ a → Holds bs n a → ⊥
@@ -70,14 +70,14 @@ module _ {bs : List ℕ} {n o : ℕ} {part : List ℕ} (h : Here bs n o part) wh
         elim (cases_lt held.0 n) [
           | inl k ↦ all b (held.0, k, held.2, held.3)
           | inr k ↦ elim (cases_lt n held.0) [
-            | inl j ↦ absurd (omega (arith, apart bs (count_of bs) h.right.1 n held.0 j held.1, ends))
+            | inl j ↦ absurd (omega (arith, apart bs (pair_count bs) h.right.1 n held.0 j held.1, ends))
             | inr j ↦ let e : held.0 ≡ n = omega arith in here b (omega (arith, ap (offset_of bs) e, h.begins)) less
           ]
         ];
   }
 
   -- What is open before any segment is laid is open still when this one is.
-  pub open_still : (f g : Map) → AllOpen bs (count_of bs) f → Lays bs n f g → OpenFrom g o (o + words_in part)
+  pub open_still : (f g : Map) → AllOpen bs (pair_count bs) f → Lays bs n f g → OpenFrom g o (o + words_in part)
   open_still f g all before a low high =
       ap cell_is_open (before.rest a (fresh a low)) ∙ all a (n, h.within, omega (arith, h.begins), omega (arith, ends))
 

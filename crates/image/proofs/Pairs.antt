@@ -3,17 +3,17 @@ use Rattle.std.proofs.Common.{◌≡◌, ℕ, zero, suc, ◌+◌, ◌*◌, ◌<�
 use Rattle.std.proofs.Math.Seq.{drop-drop}
 use Rattle.std.proofs.lemmas.Bool.{cases_lt}
 use Rattle.image.specs.declared.image.Directory.{Directory}
-use Rattle.image.specs.Directory.{number, count_of, offset_of, length_of, end_of, floor_of, words_before, start_of, part_of}
+use Rattle.image.specs.Directory.{number, pair_count, offset_of, length_of, end_of, floor_of, words_before, start_of, part_of}
 use Rattle.image.specs.Directory.{RightPairs, Right}
 use Rattle.image.specs.Words.{words_in}
 use Rattle.image.proofs.Chunks.{chunk_at, number_in}
 
 -- The numbers of pair n, read from its bytes.
-module _ (d : Directory) (n : ℕ) (x : List ℕ) (l : n < count_of d.bytes.now) where
+module _ (d : Directory) (n : ℕ) (x : List ℕ) (l : n < pair_count d.bytes.now) where
   pair_at : get_or d.pairs.now n x ≡ take 8 (drop (4 + 8 * n) d.bytes.now)
   pair_at =
       ap (λ ps. get_or ps n x) d.paired
-      ∙ chunk_at 8 (count_of d.bytes.now) (drop 4 d.bytes.now) n x l
+      ∙ chunk_at 8 (pair_count d.bytes.now) (drop 4 d.bytes.now) n x l
       ∙ ap (take 8) (drop-drop (8 * n) 4 d.bytes.now)
 
   pub pair_offset : number (get_or d.pairs.now n x) 0 ≡ offset_of d.bytes.now n
@@ -46,9 +46,9 @@ apart bs count right m (suc n) h l =
       | inr g ↦ let e : m ≡ n = omega arith in omega (arith, ap (end_of bs) e, right (suc n) l)
     ]
 
-module _ (bs : List ℕ) (right : Right bs) (n : ℕ) (l : n < count_of bs) where
+module _ (bs : List ℕ) (right : Right bs) (n : ℕ) (l : n < pair_count bs) where
   pub part_within : start_of bs n + 4 * length_of bs n ≤ length bs
-  part_within = omega (arith, words_grow bs n (count_of bs) l)
+  part_within = omega (arith, words_grow bs n (pair_count bs) l)
 
   pub part_words : words_in (part_of bs n) ≡ length_of bs n
   part_words = let h = part_within in simp (length-take, length-drop) (omega arith)

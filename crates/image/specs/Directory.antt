@@ -8,8 +8,8 @@ use Rattle.std.specs.Simd.{first_chunks}
 unfoldable pub number : List ℕ → ℕ → ℕ
 number bs p = slice_index bs p * 16777216 + slice_index bs (p + 1) * 65536 + slice_index bs (p + 2) * 256 + slice_index bs (p + 3)
 
-abbrev pub count_of : List ℕ → ℕ
-count_of bs = number bs 0
+abbrev pub pair_count : List ℕ → ℕ
+pair_count bs = number bs 0
 
 abbrev pub offset_of : List ℕ → ℕ → ℕ
 offset_of bs n = number bs (4 + 8 * n)
@@ -32,15 +32,15 @@ end_of_directory count = 4 + 8 * count
 
 -- The bytes have a count of at most 64 pairs, and the pairs.
 abbrev pub Listed : List ℕ → Type 0
-Listed bs = (count_of bs ≤ 64) × (end_of_directory (count_of bs) ≤ length bs)
+Listed bs = (pair_count bs ≤ 64) × (end_of_directory (pair_count bs) ≤ length bs)
 
 -- The bytes of the pairs, eight for each.
 abbrev pub pairs_of : List ℕ → List (List ℕ)
-pairs_of bs = first_chunks 8 (count_of bs) (drop 4 bs)
+pairs_of bs = first_chunks 8 (pair_count bs) (drop 4 bs)
 
 -- The position of the first byte of segment n.
 abbrev pub start_of : List ℕ → ℕ → ℕ
-start_of bs n = end_of_directory (count_of bs) + 4 * words_before bs n
+start_of bs n = end_of_directory (pair_count bs) + 4 * words_before bs n
 
 -- The bytes of segment n.
 abbrev pub part_of : List ℕ → ℕ → List ℕ
@@ -60,4 +60,4 @@ RightPairs bs count = (n : ℕ) → n < count → RightPair bs n
 
 -- A right image: few and right pairs, and its last segment ends where the bytes do.
 abbrev pub Right : List ℕ → Type 0
-Right bs = (count_of bs ≤ 64) × RightPairs bs (count_of bs) × (length bs ≡ start_of bs (count_of bs))
+Right bs = (pair_count bs ≤ 64) × RightPairs bs (pair_count bs) × (length bs ≡ start_of bs (pair_count bs))

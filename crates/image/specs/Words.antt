@@ -1,16 +1,10 @@
 -- The words of one segment, and their places on a card.
 -- A reader must believe: word k of a segment is the number of its bytes 4k to 4k + 3, at the address offset + k.
-use Rattle.std.specs.Prelude.{◌≡◌, ℕ, ◌+◌, ◌-◌, ◌*◌, ◌/◌, ◌<◌, ◌≤◌, Bool, true, false, cond, ◌&&◌, List, length, map, find, not, Option, nat_le, nat_lt}
+use Rattle.std.specs.Prelude.{◌≡◌, ℕ, ◌+◌, ◌-◌, ◌*◌, ◌/◌, ◌<◌, ◌≤◌, Bool, true, false, ◌&&◌, List, length, map, find, not, Option, nat_le, nat_lt, if◌then◌else◌}
 use Rattle.std.specs.List.{range_with_len}
-use Rattle.card.specs.declared.cell.Cell.{Cell}
-use Rattle.card.specs.declared.cell.Cell.TheVariants.{Absent, Fixed, Open}
-use Rattle.card.specs.Ends.{Map}
+use Rattle.card.specs.declared.cell.Cell.TheVariants.{Open}
+use Rattle.card.specs.Cells.{Map, cell_is_open}
 use Rattle.image.specs.Directory.{number}
-
-abbrev pub cell_is_open : Cell → Bool
-cell_is_open (Absent o) = false
-cell_is_open (Fixed w o) = false
-cell_is_open (Open w) = true
 
 abbrev pub words_in : List ℕ → ℕ
 words_in part = length part / 4
@@ -33,4 +27,4 @@ closed_in f offset part = find (λ a. not (cell_is_open (f a))) (addresses offse
 
 -- The map with the first k words of a segment at their places.
 abbrev pub laid : ℕ → List ℕ → ℕ → Map → Map
-laid offset part k f a = cond (nat_le offset a && nat_lt a (offset + k)) (Open (word_in part (a - offset))) (f a)
+laid offset part k f a = if nat_le offset a && nat_lt a (offset + k) then Open (word_in part (a - offset)) else f a

@@ -1,7 +1,7 @@
 // A checked image: its bytes are right by its type. Its directory is a count, and a pair of an offset and a length for each
 // segment.
 ghost use Rattle.std.specs.Prelude.{◌≡◌, ◌+◌, ◌^◌, ◌<◌, ◌≤◌, length, MatchBool, [], ◌∷◌, Some};
-ghost use Rattle.image.specs.Directory.{number, count_of, offset_of, length_of, pairs_of, Listed};
+ghost use Rattle.image.specs.Directory.{number, pair_count, offset_of, length_of, pairs_of, Listed};
 ghost use Rattle.image.specs.Directory.{words_before, start_of, RightPairs, Right};
 
 use crate::segment::Segment;
@@ -55,7 +55,7 @@ struct Directory<'a> {
     pairs: &'a [[u8; 8]],
     ghost listed: { Listed bytes.now },
     ghost paired: { pairs.now ≡ pairs_of bytes.now },
-    ghost counted: { length pairs.now ≡ count_of bytes.now },
+    ghost counted: { length pairs.now ≡ pair_count bytes.now },
 }
 
 impl<'a> Directory<'a> {
@@ -70,14 +70,14 @@ impl<'a> Directory<'a> {
     }
 
     fn count(&self) -> usize
-        ensures { result ≡ count_of self.now.bytes.now }
+        ensures { result ≡ pair_count self.now.bytes.now }
     {
         self.pairs.len()
     }
 
     // that there is a pair n is a fact about the argument, so no type has it
     fn pair(&self, n: usize) -> Pair
-        requires { n < count_of self.now.bytes.now }
+        requires { n < pair_count self.now.bytes.now }
         ensures offset { result.offset ≡ offset_of self.now.bytes.now n }
         ensures length { result.length ≡ length_of self.now.bytes.now n }
     {
@@ -86,8 +86,8 @@ impl<'a> Directory<'a> {
 
     // Whether each pair has a word, begins at or after the end of the one before it, and stays within the addresses.
     fn pairs_right(&self) -> bool
-        ensures { MatchBool result (RightPairs self.now.bytes.now (count_of self.now.bytes.now))
-            (RightPairs self.now.bytes.now (count_of self.now.bytes.now) → ⊥) }
+        ensures { MatchBool result (RightPairs self.now.bytes.now (pair_count self.now.bytes.now))
+            (RightPairs self.now.bytes.now (pair_count self.now.bytes.now) → ⊥) }
     {
         let mut floor = 0;
         for bytes in self.pairs {
@@ -102,7 +102,7 @@ impl<'a> Directory<'a> {
 
     // How many words the segments before n have together.
     fn words_before(&self, n: usize) -> usize
-        requires { n ≤ count_of self.now.bytes.now }
+        requires { n ≤ pair_count self.now.bytes.now }
         ensures value { result ≡ words_before self.now.bytes.now n }
         ensures bound { result ≤ 2 ^ 38 }
     {
@@ -116,7 +116,7 @@ impl<'a> Directory<'a> {
 
     // The position of the first byte of segment n; past the last, the position after all segments.
     fn start(&self, n: usize) -> usize
-        requires { n ≤ count_of self.now.bytes.now }
+        requires { n ≤ pair_count self.now.bytes.now }
         ensures { result ≡ start_of self.now.bytes.now n }
     {
         4 + 8 * self.count() + 4 * self.words_before(n)
@@ -148,7 +148,7 @@ impl<'a> Image<'a> {
     ghost use Rattle.image.specs.Segments.{Shown};
 
     fn segment_at(&self, n: usize) -> Segment<'a>
-        requires { n < count_of (bytes_of self.now) }
+        requires { n < pair_count (bytes_of self.now) }
         ensures { Shown (bytes_of self.now) n (Some result) }
     {
         let bytes = self.directory.bytes;

@@ -1,6 +1,6 @@
 -- Arithmetic and logic on words. An operation answers a word and the three flags V, N, Z.
 -- A reader must believe: operands are signed words and results are exact integers before they are narrowed to a word.
-use Rattle.std.specs.Prelude.{ℕ, ◌-◌, Bool, true, false, cond, not, ℤ, ◌+ℤ◌, ◌-ℤ◌, ◌*ℤ◌, ◌==◌, bit_and, bit_or, bit_xor, int_div, nat_le}
+use Rattle.std.specs.Prelude.{ℕ, ◌-◌, Bool, true, false, not, ℤ, ◌+ℤ◌, ◌-ℤ◌, ◌*ℤ◌, ◌==◌, bit_and, bit_or, bit_xor, int_div, nat_le, if◌then◌else◌}
 use Rattle.std.specs.Int.Signed.{non_neg}
 use Rattle.isa.specs.declared.alu.Arithmetic.{Arithmetic}
 use Rattle.isa.specs.declared.alu.Arithmetic.TheVariants.{Add, Sub, Mul, Div}
@@ -29,7 +29,7 @@ clamping exact = answer (word_of (clamped exact)) (not (in_range exact))
 -- least one, with V set.
 abbrev pub dividing : ℤ → ℤ → Answer
 dividing a b =
-    cond (is_zero b) (answer (cond (non_neg a) 0x7fff_ffff 0x8000_0000) true) (answer (word_of (int_div a b)) false)
+    if is_zero b then answer (if non_neg a then 0x7fff_ffff else 0x8000_0000) true else answer (word_of (int_div a b)) false
 
 abbrev pub alu_of : Arithmetic → ℕ → ℕ → Answer
 alu_of Add a b = wrapping (signed a +ℤ signed b)

@@ -1,6 +1,6 @@
 -- The opcodes: the class of each and the clocks that it takes, without waits, where a branch is not taken.
 -- A reader must believe: the list `opcodes` names every opcode that is known, and the clocks are those of its class.
-use Rattle.std.specs.Prelude.{ℕ, cond, List, [], ◌∷◌, ◌==◌}
+use Rattle.std.specs.Prelude.{ℕ, List, [], ◌∷◌, ◌==◌, if◌then◌else◌}
 use Rattle.isa.specs.declared.alu.Arithmetic.TheVariants.{Add, Sub, Mul, Div}
 use Rattle.isa.specs.declared.alu.Logical.TheVariants.{And, Or, Xor, Mask}
 use Rattle.isa.specs.declared.opcodes.Class.{Class}
@@ -36,7 +36,7 @@ opcodes =
 -- The class that a list gives an opcode, unknown if it gives none.
 abbrev pub class_in : List (ℕ × Class) → ℕ → Class
 class_in [] n = Unknown
-class_in (p ∷ ps) n = cond (n == p.0) p.1 (class_in ps n)
+class_in (p ∷ ps) n = if n == p.0 then p.1 else class_in ps n
 
 -- Not unfolded by the search for proofs: at an unknown opcode it is twenty tests.
 unfoldable pub class_of : ℕ → Class

@@ -3,7 +3,7 @@ use Rattle.std.proofs.Common.{◌≡◌, ℕ, ◌+◌, ◌-◌, ◌<◌, ◌≤�
 use Rattle.std.proofs.lemmas.Bool.{le-leb, lt-leb, cases_lt}
 use Rattle.card.specs.declared.cell.Cell.{Cell}
 use Rattle.card.specs.declared.cell.Cell.TheVariants.{Absent, Fixed, Open}
-use Rattle.card.specs.Ends.{Map}
+use Rattle.card.specs.Cells.{Map}
 use Rattle.layer.specs.declared.kind.Kind.TheVariants.{Offset, Guard}
 use Rattle.layer.specs.Kinds.{guards}
 use Rattle.layer.specs.Laws.{Laws, bare, SameCells}

@@ -1,13 +1,13 @@
 -- What each kind of layer makes of an address and of a patience.
 -- A reader must believe: the offset layer has no address below its base, the guard layer guards from its first to its last
 -- address, and the slow layer adds the smaller of its setting and 4,096 less the patience below.
-use Rattle.std.specs.Prelude.{ℕ, ◌+◌, ◌-◌, ◌≤◌, min, Bool, false, cond, ◌&&◌, Some, None, Option, nat_le}
+use Rattle.std.specs.Prelude.{ℕ, ◌+◌, ◌-◌, ◌≤◌, min, Bool, false, ◌&&◌, Some, None, Option, nat_le, if◌then◌else◌}
 use Rattle.std.proofs.Common.{arith}
 use Rattle.layer.specs.declared.kind.Kind.{Kind}
 use Rattle.layer.specs.declared.kind.Kind.TheVariants.{Offset, Guard, Slow}
 
 abbrev pub address_under : Kind → ℕ → Option ℕ
-address_under (Offset base) a = cond (nat_le base a) (Some (a - base)) None
+address_under (Offset base) a = if nat_le base a then Some (a - base) else None
 address_under (Guard first last) a = Some a
 address_under (Slow waits) a = Some a
 

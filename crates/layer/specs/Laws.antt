@@ -4,8 +4,7 @@ use Rattle.std.specs.Prelude.{◌≡◌, ℕ, zero, suc, ◌+◌, Bool, ◌||◌
 use Rattle.card.specs.declared.cell.Cell.{Cell}
 use Rattle.card.specs.declared.cell.Cell.TheVariants.{Absent, Fixed, Open}
 use Rattle.card.specs.declared.cell.Origin.{Origin}
-use Rattle.card.specs.Bottom.{here}
-use Rattle.card.specs.Ends.{Map}
+use Rattle.card.specs.Cells.{Map, here}
 use Rattle.layer.specs.declared.kind.Kind.TheVariants.{Offset, Guard, Slow}
 use Rattle.layer.specs.Kinds.{guards, added}
 use Rattle.layer.specs.Shown.{shown, lifted, raised}

@@ -6,8 +6,7 @@ use Rattle.card.specs.declared.cell.Cell.{Cell}
 use Rattle.card.specs.declared.cell.Cell.TheVariants.{Absent, Fixed, Open}
 use Rattle.card.specs.declared.cell.Origin.{Origin}
 use Rattle.card.specs.declared.transfer.Transfer.{Transfer}
-use Rattle.card.specs.Bottom.{here}
-use Rattle.card.specs.Ends.{Map}
+use Rattle.card.specs.Cells.{Map, here}
 use Rattle.card.specs.Meaning.{Meaning}
 use Rattle.layer.specs.declared.kind.Kind.{Kind}
 use Rattle.layer.specs.Kinds.{address_under, guards, added}

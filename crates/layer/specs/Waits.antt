@@ -8,7 +8,7 @@ use Rattle.card.specs.declared.transfer.Direction.{Direction}
 use Rattle.card.specs.declared.transfer.Direction.TheVariants.{Read, Write}
 use Rattle.card.specs.declared.transfer.Request.{Request}
 use Rattle.card.specs.declared.transfer.Transfer.{Transfer}
-use Rattle.card.specs.Ends.{Map}
+use Rattle.card.specs.Cells.{Map}
 use Rattle.card.specs.Meaning.{Meaning}
 use Rattle.layer.specs.declared.kind.Kind.{Kind}
 use Rattle.layer.specs.Kinds.{address_under, guards, added}

@@ -5,11 +5,12 @@ use Rattle.std.specs.Borrow.{MutBor}
 use Rattle.std.specs.Result.{result_ok}
 use Rattle.refusal.specs.declared.Refusal.{Refusal}
 use Rattle.refusal.specs.declared.Refusal.TheVariants as refused
+use Rattle.refusal.specs.Unless.{UnlessRefused}
 use Rattle.card.specs.declared.transfer.Transfer.{Transfer}
 use Rattle.card.specs.Ends.{End}
 use Rattle.card.specs.Meaning.{Meaning, idle}
 use Rattle.machine.specs.declared.axis.Axis.{Axis}
-use Rattle.machine.specs.declared.fault.Fault.{Fault as Record}
+use Rattle.machine.specs.declared.fault.Fault.{Fault}
 use Rattle.machine.specs.declared.fault.Stage.{Stage}
 use Rattle.machine.specs.declared.machine.Machine.{Machine}
 use Rattle.machine.specs.declared.machine.Outcome.{Outcome}
@@ -38,23 +39,23 @@ pub record Takes (s : Option Outcome × State) (c : Meaning) (r : Result Outcome
 
 -- What a part of an instruction answers and leaves, where a fault is answered and not yet recorded. Used by private
 -- functions only, as all up to `word_or_fault`.
-abbrev pub outcome_of : Result Outcome Record → Outcome
+abbrev pub outcome_of : Result Outcome Fault → Outcome
 outcome_of (Ok o) = o
 outcome_of (Err f) = Halted
 
-abbrev pub recorded : Result Outcome Record → Machine → Machine
+abbrev pub recorded : Result Outcome Fault → Machine → Machine
 recorded (Ok o) m = m
 recorded (Err f) m = record m { fault = Some f }
 
 -- A part of an instruction, as a step from the machine m on the card that c lends; d is the same loan afterwards.
 pub record Executes {X : Type 0} (meaning : X → Meaning) (f : State → Step) (m : Machine) (c : MutBor X)
-    (r : Result Outcome Record) (n : Machine) (d : MutBor X) : Type 0 where
+    (r : Result Outcome Fault) (n : Machine) (d : MutBor X) : Type 0 where
   pub taken : Takes (answered (f (state_of m (meaning c.now).map))) (meaning c.now) (Ok (outcome_of r)) (recorded r n)
       (meaning d.now)
   pub lender : d.ghost_name ≡ c.ghost_name
 
 -- The word of an access of the machine, or the fault that the access is at a stage.
-abbrev pub word_or_fault : Machine → Stage → ℕ → End → Result ℕ Record
+abbrev pub word_or_fault : Machine → Stage → ℕ → End → Result ℕ Fault
 word_or_fault m stage access (Ok w) = Ok w
 word_or_fault m stage access (Err f) =
     Err
@@ -67,17 +68,12 @@ word_or_fault m stage access (Err f) =
       origin = f.origin;
     })
 
-abbrev pub Refused : Refusal → Machine → Meaning → Result Outcome Refusal → Machine → Meaning → Type 0
-Refused e m c r n d = (r ≡ Err e) × (n ≡ m) × (d ≡ c)
-
 -- One instruction: refused first if the machine has halted, then if a transfer is in being.
-abbrev pub SteppedIdle : Option Transfer → Machine → Meaning → Result Outcome Refusal → Machine → Meaning → Type 0
-SteppedIdle None m c r n d = Takes (step (state_of m c.map)) c r n d
-SteppedIdle (Some t) m c r n d = Refused refused.Transfer m c r n d
-
-abbrev pub SteppedFrom : Option Record → Machine → Meaning → Result Outcome Refusal → Machine → Meaning → Type 0
-SteppedFrom None m c r n d = SteppedIdle c.transfer m c r n d
-SteppedFrom (Some f) m c r n d = Refused refused.Halted m c r n d
+abbrev pub refusal_at : Option Fault → Option Transfer → Option Refusal
+refusal_at (Some f) t = Some refused.Halted
+refusal_at None (Some t) = Some refused.Transfer
+refusal_at None None = None
 
 abbrev pub Stepped : Machine → Meaning → Result Outcome Refusal → Machine → Meaning → Type 0
-Stepped m c r n d = SteppedFrom m.fault m c r n d
+Stepped m c r n d =
+    UnlessRefused (refusal_at m.fault c.transfer) r ((n ≡ m) × (d ≡ c)) (Takes (step (state_of m c.map)) c r n d)

@@ -11,7 +11,7 @@ use Rattle.isa.specs.declared.opcodes.Form.{Form}
 use Rattle.isa.specs.Branch.{taken_by}
 use Rattle.isa.specs.Fields.{instruction_of}
 use Rattle.isa.specs.Opcodes.{class_of}
-use Rattle.machine.specs.declared.fault.Fault.{Fault as Record}
+use Rattle.machine.specs.declared.fault.Fault.{Fault}
 use Rattle.machine.specs.declared.machine.Outcome.{Outcome}
 use Rattle.machine.specs.declared.machine.Outcome.TheVariants.{Done, Ignored, Halted}
 use Rattle.machine.specs.Registers.{put}
@@ -83,7 +83,7 @@ pub record Finishes (k : Class) (i : Instruction) (s t : State) : Type 0 where
 
 -- An instruction that halts changes nothing but the fault, which names the axis and the instruction.
 abbrev pub Halts : State → State → Type 0
-Halts s t = (f : Record) × (t ≡ failed s f) × (f.axis ≡ s.axis) × (f.instruction ≡ s.pc)
+Halts s t = (f : Fault) × (t ≡ failed s f) × (f.axis ≡ s.axis) × (f.instruction ≡ s.pc)
 
 abbrev pub LawfulAs : Outcome → Class → Instruction → State → State → Type 0
 LawfulAs Done k i s t = Finishes k i s t

@@ -1,6 +1,7 @@
 pub mod Access
 pub mod Axes
 pub mod Calls
+pub mod Faults
 pub mod Laws
 pub mod Marked
 pub mod Registers

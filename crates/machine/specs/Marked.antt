@@ -1,8 +1,8 @@
 -- Eight marked words: instructions with the state before and the state after, as whole states.
 -- A reader must believe: each row is one that the chapter's rules, with the choices that docs/ lists, ask for.
-use Rattle.std.specs.Prelude.{◌≡◌, ℕ, Bool, true, false, cond, List, [], ◌∷◌, map, Some, None, ◌==◌}
+use Rattle.std.specs.Prelude.{◌≡◌, ℕ, Bool, true, false, List, [], ◌∷◌, map, Some, None, ◌==◌, if◌then◌else◌}
 use Rattle.card.specs.declared.cell.Cell.TheVariants.{Absent, Open}
-use Rattle.card.specs.Ends.{Map}
+use Rattle.card.specs.Cells.{Map}
 use Rattle.isa.specs.declared.flags.Flags.{Flags}
 use Rattle.machine.specs.declared.axis.Axis.TheVariants.{One}
 use Rattle.machine.specs.declared.machine.Outcome.TheVariants.{Done}
@@ -13,7 +13,7 @@ use Rattle.machine.specs.Step.{step}
 -- Open cells with these words at these addresses, and absent ones elsewhere.
 abbrev pub memory : List (ℕ × ℕ) → Map
 memory [] a = Absent (record { address = a; layer = 0 })
-memory (c ∷ cs) a = cond (a == c.0) (Open c.1) (memory cs a)
+memory (c ∷ cs) a = if a == c.0 then Open c.1 else memory cs a
 
 -- Registers that hold these words, and zero elsewhere.
 abbrev pub holding : List (ℕ × ℕ) → List ℕ

@@ -1,7 +1,7 @@
 -- The architectural state of the DP32, the memory that its card shows, and the machine that holds it.
 -- A reader must believe: this is all that an instruction can read or change.
 use Rattle.std.specs.Prelude.{ℕ, ◌+◌, ◌%◌, ◌^◌, false, List, None, Option}
-use Rattle.card.specs.Ends.{Map}
+use Rattle.card.specs.Cells.{Map}
 use Rattle.isa.specs.Alu.{Answer}
 use Rattle.isa.specs.declared.flags.Flags.{Flags}
 use Rattle.machine.specs.declared.axis.Axis.{Axis}

@@ -15,7 +15,7 @@ use Rattle.isa.specs.Alu.{Answer, alu_of, logic_of}
 use Rattle.isa.specs.Branch.{taken_by}
 use Rattle.isa.specs.Fields.{instruction_of, immediate_of}
 use Rattle.isa.specs.Opcodes.{class_of}
-use Rattle.machine.specs.declared.fault.Fault.{Fault as Record}
+use Rattle.machine.specs.declared.fault.Fault.{Fault}
 use Rattle.machine.specs.declared.fault.Stage.{Stage}
 use Rattle.machine.specs.declared.fault.Stage.TheVariants as stage
 use Rattle.machine.specs.declared.machine.Outcome.{Outcome}
@@ -32,7 +32,7 @@ abbrev pub jump : State → ℕ → State
 jump s a = record s { pc = a }
 
 -- A fault changes nothing but the fault itself: PC stays at the instruction.
-abbrev pub failed : State → Record → State
+abbrev pub failed : State → Fault → State
 failed s f = record s { fault = Some f }
 
 abbrev pub halt : State → Stage → ℕ → AccessFault → Step
@@ -123,7 +123,7 @@ abbrev pub answered : Step → Option Outcome × State
 answered u = (Some u.0, u.1)
 
 -- One instruction: an answer, or none where there is a fault, and the state afterwards.
-abbrev pub step_from : Option Record → State → Option Outcome × State
+abbrev pub step_from : Option Fault → State → Option Outcome × State
 step_from None s = answered (running s)
 step_from (Some f) s = (None, s)
 

@@ -1,6 +1,6 @@
 // The record of a fault, which halts a machine until its next reset.
 ghost use Rattle.std.specs.Prelude.{◌≡◌};
-ghost use Rattle.machine.specs.Axes.{stage_number};
+ghost use Rattle.machine.specs.Faults.{stage_number};
 
 use super::axis::Axis;
 use card::{Cause, Origin};

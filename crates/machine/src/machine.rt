@@ -1,6 +1,6 @@
 // The instruction machine: the state, power-up, reset, and the questions. One instruction is in the module `execute`.
 ghost use Rattle.std.specs.Prelude.{◌≡◌, OnErr};
-ghost use Rattle.card.specs.Ends.{Map};
+ghost use Rattle.card.specs.Cells.{Map};
 ghost use Rattle.machine.specs.Calls.{PoweredUp};
 ghost use Rattle.machine.specs.Registers.{read};
 ghost use Rattle.machine.specs.State.{state_of, restarted};

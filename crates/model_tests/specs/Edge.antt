@@ -1,17 +1,17 @@
 -- The meaning of the tests' own card, which has a cell at every address.
 -- A reader must believe: nothing; no promise of the library rests on it.
-use Rattle.std.specs.Prelude.{ℕ, ◌+◌, ◌-◌, ◌%◌, ◌^◌, ◌≤◌, min, cond, ◌&&◌, List, Option, nat_le, nat_lt, slice_index}
+use Rattle.std.specs.Prelude.{ℕ, ◌+◌, ◌-◌, ◌%◌, ◌^◌, ◌≤◌, min, ◌&&◌, List, Option, nat_le, nat_lt, slice_index, if◌then◌else◌}
 use Rattle.std.proofs.Common.{arith}
 use Rattle.card.specs.declared.cell.Cell.TheVariants.{Fixed, Open}
 use Rattle.card.specs.declared.transfer.Transfer.{Transfer}
-use Rattle.card.specs.Ends.{Map}
+use Rattle.card.specs.Cells.{Map}
 use Rattle.card.specs.Meaning.{Meaning}
 
 abbrev pub edge_cells : List ℕ → List ℕ → ℕ → Map
 edge_cells first last layers a =
-    cond (nat_lt a 8) (Open (slice_index first a))
-    (cond (nat_le 0xffff_fff8 a && nat_lt a (2 ^ 32)) (Open (slice_index last (a - 0xffff_fff8)))
-    (Fixed 0 (record { address = a; layer = layers })))
+    if nat_lt a 8 then Open (slice_index first a)
+    else if nat_le 0xffff_fff8 a && nat_lt a (2 ^ 32) then Open (slice_index last (a - 0xffff_fff8))
+    else Fixed 0 (record { address = a; layer = layers })
 
 abbrev pub edge_meaning : List ℕ → List ℕ → ℕ → ℕ → Option Transfer → Meaning
 edge_meaning first last layers more t =

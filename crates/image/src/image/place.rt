@@ -2,9 +2,10 @@
 ghost use Rattle.std.specs.Prelude.{◌≡◌, OnErr, ◌+◌, ◌^◌, ◌≤◌};
 ghost use Rattle.card.specs.Meaning.{mapped};
 ghost use Rattle.image.specs.Check.{bytes_of};
-ghost use Rattle.image.specs.Directory.{count_of};
+ghost use Rattle.image.specs.Directory.{pair_count};
 ghost use Rattle.image.specs.Placing.{AllOpen, Looked, Laid, PlacedImage};
-ghost use Rattle.image.specs.Words.{cell_is_open, words_in, OpenFrom, closed_in, laid};
+ghost use Rattle.card.specs.Cells.{cell_is_open};
+ghost use Rattle.image.specs.Words.{words_in, OpenFrom, closed_in, laid};
 
 use super::Image;
 use crate::placing::NotPlaced;
@@ -40,8 +41,8 @@ impl<'a> Image<'a> {
     }
 
     fn lay<C: Cells>(&self, card: &mut C)
-        requires { AllOpen (bytes_of self.now) (count_of (bytes_of self.now)) (C.Cells.meaning card.old).map }
-        ensures laid { Laid (bytes_of self.now) (count_of (bytes_of self.now))
+        requires { AllOpen (bytes_of self.now) (pair_count (bytes_of self.now)) (C.Cells.meaning card.old).map }
+        ensures laid { Laid (bytes_of self.now) (pair_count (bytes_of self.now))
             (C.Cells.meaning card.old) (C.Cells.meaning card.new) }
         ensures frame { C.Cells.frame card.new ≡ C.Cells.frame card.old }
     {

@@ -4,6 +4,6 @@ use Rattle.clocked.specs.declared.key.Key.{Key}
 use Rattle.clocked.specs.declared.processor.Processor.{Processor}
 use Rattle.clocked.specs.Refusals.{fits}
 
-abbrev pub held : Option Key → Processor → Bool
-held None p = true
-held (Some k) p = fits k p
+abbrev pub key_fits : Option Key → Processor → Bool
+key_fits None p = true
+key_fits (Some k) p = fits k p
