@@ -1,5 +1,5 @@
 -- The machine of the five calls is determined: each of its entries is a function of the configuration, the call and the waits.
-use Rattle.std.proofs.Common.{◌≡◌, ℕ, zero, suc, true, false, Some, None, Ok, Err, Option, Result, sym, refl, ap, ◌∙◌}
+use Rattle.std.proofs.Common.{List, [], ◌∷◌, map, arith, ◌≡◌, ℕ, zero, suc, true, false, Some, None, Ok, Err, Option, Result, sym, refl, ap, ◌∙◌}
 use Rattle.std.specs.Option.{option_map}
 use Rattle.refusal.specs.declared.Refusal.{Refusal}
 use Rattle.refusal.specs.Unless.{UnlessRefused}
@@ -22,7 +22,7 @@ use Rattle.clocked.specs.Comparison.{begun, begun_in}
 use Rattle.clocked.specs.Control.{named}
 use Rattle.clocked.specs.Determined.{Determined}
 use Rattle.clocked.specs.Refusals.{when_transfer, clock_refusal, reset_refusal, draw_refusal, key_refusal}
-use Rattle.clocked.specs.Runs.{Config, config, Call, call_of, to_clock, to_reset, to_draw, to_set, to_give_back, clocked, reset, drawn, set, given, Made, MadeBy, Event}
+use Rattle.clocked.specs.Runs.{Config, config, Call, call_of, to_clock, to_reset, to_draw, to_set, to_give_back, clocked, reset, drawn, set, given, Made, MadeBy, Event, Entry, Run, none, more}
 use Rattle.clocked.specs.Table.{Move, Row, moves, begins, polls, row_of}
 use Rattle.clocked.proofs.Calling.{no_lock, no_halt}
 use Rattle.clocked.proofs.Steps.{some_none, begun_new}
@@ -121,9 +121,9 @@ module _ (p : Processor) (c : Meaning) (q : Processor) (d : Meaning) where
 
   accepted : (r : Result Tick Refusal) → clock_refusal p c ≡ None → Accepted r p c q d →
       ◌≡◌ {A = Response} (clocked r, config q d) (clocks None p c (begun c.transfer d.transfer))
-  accepted (Err e) none h = elim h [ ]
-  accepted (Ok t) none h =
-      let idle = (no_halt p.fault _ (no_lock p.locked _ none).1).1 in
+  accepted (Err e) free h = elim h [ ]
+  accepted (Ok t) free h =
+      let idle = (no_halt p.fault _ (no_lock p.locked _ free).1).1 in
       ap (λ (x : Tick). (clocked (Ok x), config q d)) (ap (λ x. record { state = x; answer = t.answer }) h.0)
       ∙ ap (ticked p) (by_row p c t.answer q d (row_of p.control p) idle h.1)
 
@@ -164,8 +164,8 @@ of_made (drawn r) b a h = draw_made b.processor b.card a.processor a.card (draw_
 of_made (set k n v r) b a h = set_made b.processor b.card a.processor a.card (key_refusal k b.processor) k n v r h.1 h.0
 of_made (given k r) b a h = given_made b.processor b.card a.processor a.card (key_refusal k b.processor) k r h.1 h.0
 
-pub determined : Determined Made
-determined e f me mf same call waits =
+same_entry : (e f : Entry) → Made e → Made f → e.before ≡ f.before → call_of e.event ≡ call_of f.event → begun_in e ≡ begun_in f → e ≡ f
+same_entry e f me mf same call waits =
     let x = of_made e.event e.before e.after me in
     let y = of_made f.event f.before f.after mf in
     let z : ◌≡◌ {A = Response} (e.event, e.after) (f.event, f.after) =
@@ -173,3 +173,44 @@ determined e f me mf same call waits =
     ∙ ap (λ (k : Call). made_in k f.before (begun_in e)) call ∙ ap (λ (w : ℕ). made_in (call_of f.event) f.before w) waits ∙ sym y in
     ap (λ (b : Config). record { before = b; event = e.event; after = e.after }) same
     ∙ ap (λ (v : Response). record { before = f.before; event = v.0; after = v.1 }) z
+
+abbrev calls_in : List Entry → List Call
+calls_in es = map (λ e. call_of e.event) es
+
+-- Two runs end the same and are the same, if their calls and waits are.
+abbrev Replays : Config → List Entry → Config → Type 0
+Replays start es c =
+    (fs : List Entry) (d : Config) → Run Made start fs d → calls_in es ≡ calls_in fs → map begun_in es ≡ map begun_in fs → (es ≡ fs) × (c ≡ d)
+
+none_more : {X : Type 0} (x : X) (xs : List X) → ◌≡◌ {A = List X} [] (x ∷ xs) → ⊥
+none_more x xs e = let y : ◌≡◌ {A = ℕ} 0 1 = cc in omega arith
+
+heads : {X : Type 0} (x y : X) (xs ys : List X) → (x ∷ xs) ≡ (y ∷ ys) → (x ≡ y) × (xs ≡ ys)
+heads x y xs ys e = (cc, cc)
+
+module _ (start : Config) where
+  replays_none : {fs : List Entry} {d : Config} → Run Made start fs d → calls_in [] ≡ calls_in fs → map begun_in [] ≡ map begun_in fs →
+      ([] ≡ fs) × (start ≡ d)
+  replays_none none calls waits = (refl, refl)
+  replays_none (more f fs r k) calls waits = elim (none_more _ _ calls) [ ]
+
+  replays_more : (e : Entry) (es : List Entry) → Made e → Replays start es e.before → {gs : List Entry} {d : Config} → Run Made start gs d →
+      calls_in (e ∷ es) ≡ calls_in gs → map begun_in (e ∷ es) ≡ map begun_in gs → ((e ∷ es) ≡ gs) × (e.after ≡ d)
+  replays_more e es m same none calls waits = elim (none_more _ _ (sym calls)) [ ]
+  replays_more e es m same (more f fs r k) calls waits =
+      let call = heads _ _ _ _ calls in
+      let wait = heads _ _ _ _ waits in
+      let rest = same fs f.before r call.1 wait.1 in
+      let last = same_entry e f m k rest.1 call.0 wait.0 in
+      (ap (λ (x : Entry). x ∷ es) last ∙ ap (λ (x : List Entry). f ∷ x) rest.0, ap (λ (x : Entry). x.after) last)
+
+  replays : {es : List Entry} {c : Config} → Run Made start es c → Replays start es c
+  replays none = λ fs d r. replays_none r
+  replays (more e es r m) = λ fs d s. replays_more e es m (replays r) s
+
+pub determined : Determined Made
+determined =
+    record {
+      entry = same_entry;
+      run = λ start c d es fs r s. replays start r fs d s;
+    }
