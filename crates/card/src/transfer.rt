@@ -14,14 +14,14 @@ pub enum Direction {
 }
 
 // What a machine asks of a card.
-#[derive(Clone, Copy)]
+#[derive(Clone, Copy, PartialEq, Eq, Debug)]
 pub struct Request {
     pub direction: Direction,
     pub address: u32,
 }
 
 // A transfer in being: the request, and how many more polls answer that it waits.
-#[derive(Clone, Copy)]
+#[derive(Clone, Copy, PartialEq, Eq, Debug)]
 pub struct Transfer {
     pub request: Request,
     pub waits: u16,

@@ -11,6 +11,8 @@ mod faults;
 #[cfg(test)]
 mod keys;
 #[cfg(test)]
+mod lent;
+#[cfg(test)]
 mod other_keys;
 #[cfg(test)]
 mod power_ups;

@@ -1,7 +1,7 @@
 // What an axis shows after each clock of an instruction: PC moves on, and the rest changes with the last clock only.
 use super::common::{View, equal, shows};
 use card::{Card, Cell, Cells, WordCard};
-use clocked::{Answer, ControlState, Processor};
+use clocked::{Answer, ControlState, Pending, Processor};
 use isa::Flags;
 use layer::{Kind, Layer};
 use std::process::Abort;
@@ -85,18 +85,20 @@ fn a_store_with_its_last_clock(rt: HostRuntime) -> Result<(), Fail> {
     Ok(())
 }
 
-// At the boundary after an instruction its result is not stored yet, and the question counts it.
+// At the boundary after an instruction its result is not stored yet, and the question for a register counts it.
 #[test]
 fn a_pending_result(rt: HostRuntime) -> Result<(), Fail> {
     let mut words = [0x1002_0009, 0x3003_0001];
     let mut card = WordCard::new(&mut words);
     let mut axis = Processor::power_up(1, &mut card)?;
     let mut shown = View::new();
-    for (count, register, word, pc) in [(5, 2, 9, 1), (7, 3, 0x3003_0001, 2)] {
+    equal(&rt, axis.pending(), None);
+    for (count, register, word, pc) in [(5, 2u8, 9, 1), (7, 3, 0x3003_0001, 2)] {
         for _ in 0..count {
             axis.clock(&mut card)?;
         }
-        shown.registers[register] = word;
+        equal(&rt, axis.pending(), Some(Pending { register, word }));
+        shown.registers[usize::from(register)] = word;
         shown.pc = pc;
         shows(&rt, &axis, &shown);
     }

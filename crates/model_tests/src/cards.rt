@@ -1,6 +1,8 @@
 // The two bottom cards at their ends, and calls out of order.
 use super::common::{equal, fault, shows};
-use card::{BootCard, Card, Cause, Cell, Cells, Direction, End, Origin, Request, WordCard};
+use card::{
+    BootCard, Card, Cause, Cell, Cells, Direction, End, Origin, Request, Transfer, WordCard,
+};
 use refusal::Refusal;
 use std::process::Abort;
 use std::test::Fail;
@@ -92,21 +94,27 @@ fn boot_card_is_fixed(rt: HostRuntime) -> Result<(), Fail> {
     Ok(())
 }
 
-// A second begin, a poll without a begin or after a cancel, and a word placed while it is being read.
+// A second begin, a poll without a begin or after a cancel, a word placed while it is being read, and the transfer after each call.
 fn out_of_order<C: Card>(rt: &impl Abort, card: &mut C, placed: bool) -> Result<(), Fail> {
     let request = Request {
         direction: Direction::Read,
         address: 0,
     };
+    let begun = Some(Transfer { request, waits: 0 });
     equal(rt, card.poll(), Err(Refusal::Transfer));
+    equal(rt, card.transfer(), None);
     card.begin(request)?;
+    equal(rt, card.transfer(), begun);
     equal(rt, card.begin(request), Err(Refusal::Transfer));
     equal(rt, card.place(0, 8).is_ok(), placed);
+    equal(rt, card.transfer(), begun);
     let word = if placed { 8 } else { 5 };
     equal(rt, card.poll(), Ok(Some(Ok(word))));
+    equal(rt, card.transfer(), None);
     equal(rt, card.poll(), Err(Refusal::Transfer));
     card.begin(request)?;
     card.cancel();
+    equal(rt, card.transfer(), None);
     equal(rt, card.poll(), Err(Refusal::Transfer));
     Ok(())
 }
