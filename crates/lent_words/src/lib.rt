@@ -5,7 +5,8 @@
 ghost use Rattle.std.specs.Prelude.{◌≡◌};
 ghost use Rattle.card.specs.Bottom.{beyond};
 ghost use Rattle.layer.specs.declared.kind.Kind.TheVariants.{Slow};
-ghost use Rattle.lent_words.specs.Lending.{under, under_both, lent, ClocksTo, axis_on, Ran};
+ghost use Rattle.clocked.specs.Runs.{config};
+ghost use Rattle.lent_words.specs.Lending.{under, under_both, lent, ClocksTo, Ran};
 
 use card::{Card, WordCard};
 use clocked::Processor;
@@ -15,7 +16,7 @@ use machine::Axis;
 // Powers an axis up on the words, which a word card lies over, under an offset and a slow layer, and gives it so many clocks, up to
 // the first that is refused. Answers the processor.
 pub fn run_on_words(words: &mut [u32], base: u32, waits: u8, axis: Axis, clocks: u32) -> Processor
-    ensures words { Ran axis (under_both base waits) (lent words.old) result (lent words.new) }
+    ensures words { Ran axis clocks (under_both base waits) (lent words.old) result (lent words.new) }
     ensures rest { beyond words.new ≡ beyond words.old }
 {
     let mut card = WordCard::new(words);
@@ -23,8 +24,9 @@ pub fn run_on_words(words: &mut [u32], base: u32, waits: u8, axis: Axis, clocks:
 }
 
 // The same on any card, whose transfer is cancelled.
+#[tactic(auto, using(crate::proofs::Layers::ran_below))]
 pub fn run_over<C: Card>(card: &mut C, base: u32, waits: u8, axis: Axis, clocks: u32) -> Processor
-    ensures ran { Ran axis (under_both base waits) (C.Cells.meaning card.old)
+    ensures ran { Ran axis clocks (under_both base waits) (C.Cells.meaning card.old)
         result (C.Cells.meaning card.new) }
     ensures frame { C.Cells.frame card.new ≡ C.Cells.frame card.old }
 {
@@ -32,9 +34,9 @@ pub fn run_over<C: Card>(card: &mut C, base: u32, waits: u8, axis: Axis, clocks:
     run_slowed(&mut offset, waits, axis, clocks)
 }
 
-#[tactic(auto, using(crate::proofs::Layers::known_axis))]
+#[tactic(auto, using(crate::proofs::Layers::known_axis, crate::proofs::Layers::ran_on_layer))]
 fn run_slowed<C: Card>(card: &mut C, waits: u8, axis: Axis, clocks: u32) -> Processor
-    ensures ran { Ran axis (under (Slow waits)) (C.Cells.meaning card.old)
+    ensures ran { Ran axis clocks (under (Slow waits)) (C.Cells.meaning card.old)
         result (C.Cells.meaning card.new) }
     ensures frame { C.Cells.frame card.new ≡ C.Cells.frame card.old }
 {
@@ -46,8 +48,8 @@ fn run_slowed<C: Card>(card: &mut C, waits: u8, axis: Axis, clocks: u32) -> Proc
 
 // So many clocks, up to the first that is refused.
 fn run<C: Card>(processor: &mut Processor, card: &mut C, clocks: u32)
-    ensures ran { ClocksTo (axis_on (C.Cells.meaning card.old) processor.old)
-        (axis_on (C.Cells.meaning card.new) processor.new) }
+    ensures ran { ClocksTo clocks (config processor.old (C.Cells.meaning card.old))
+        (config processor.new (C.Cells.meaning card.new)) }
     ensures frame { C.Cells.frame card.new ≡ C.Cells.frame card.old }
 {
     'clocks: for _ in 0..clocks {
