@@ -14,7 +14,7 @@ use Rattle.clocked.specs.Entries.{Took, Answers}
 use Rattle.clocked.specs.Promise.{Agreement, Timing, Counted, Always, Answering, Starts, Running}
 use Rattle.clocked.specs.Runs.{Config, Event, clocked, reset, drawn, set, given, outcome_by, Entry, events, Run, none, more}
 use Rattle.clocked.specs.Wrong.{FailsFrom, Fails, Agrees, IsInTime, IsCounted, DoesNotHalt, TakesOther}
-use Rattle.clocked.specs.WrongMachines.{Makes, IsStopped, Finishes, FinishesIf, MakesUpItsCount, HaltsIf, HaltsBefore}
+use Rattle.clocked.specs.WrongMachines.{Makes, IsStopped, EndsUnhalted, FinishesIf, MakesUpItsCount, HaltsIf, HaltsBefore}
 use Rattle.clocked.proofs.RefutedRuns.{entry, Ticked, ticked, GoesBefore, going, Each}
 use Rattle.clocked.proofs.Steps.{some_none}
 use Rattle.clocked.proofs.RefutedTiming.{first_row, Second, second, second_row}
@@ -87,7 +87,7 @@ no_waits (e ∷ es) h = ap (λ (n : ℕ). since_after e.event n (waits_since es)
     nothing (given k r) = refl
 
 -- A finish that took its count.
-finish_took : (o : Option Outcome) → Finishes o → (s : State) (n w : ℕ) → Took o s n w → n + 1 ≡ clocks_due s + w
+finish_took : (o : Option Outcome) → EndsUnhalted o → (s : State) (n w : ℕ) → Took o s n w → n + 1 ≡ clocks_due s + w
 finish_took None f s n w h = absurd f
 finish_took (Some Done) f s n w h = h
 finish_took (Some Ignored) f s n w h = h

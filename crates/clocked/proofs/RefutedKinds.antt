@@ -22,8 +22,8 @@ use Rattle.clocked.specs.Control.{named}
 use Rattle.clocked.specs.Processor.{axis_state, fresh}
 use Rattle.clocked.specs.Promise.{Starts}
 use Rattle.clocked.specs.Runs.{Config, Event, clocked, reset, drawn, set, given, events, outcome_by, outcome_of}
-use Rattle.clocked.specs.Wrong.{Exists, Occurs, StartsIn, Changes, DoesNotHalt, TakesOther}
-use Rattle.clocked.specs.WrongMachines.{Clocks, IsDue, IsStopped, Finishes, NeverEnds, Works, WorksAtOnce, WorksIn, WaitsUnasked, FinishesIf, MakesUpItsCount, HaltsIf, HaltsBefore, NeverUsesTheCard, StaysInFetch0, RefusesEveryClock}
+use Rattle.clocked.specs.Wrong.{Exists, Occurs, StartsIn, ChangesMore, DoesNotHalt, TakesOther}
+use Rattle.clocked.specs.WrongMachines.{Clocks, IsDue, IsStopped, EndsUnhalted, NeverEnds, Works, WorksAtOnce, WorksIn, WaitsUnasked, FinishesIf, MakesUpItsCount, HaltsIf, HaltsBefore, NeverUsesTheCard, StaysInFetch0, RefusesEveryClock}
 use Rattle.clocked.proofs.RefutedRuns.{clocks_map}
 use Rattle.clocked.proofs.RefutedMachine.{EntryIs, exists, clocks_so, tick, with}
 use Rattle.clocked.proofs.RefutedCounter.{CountsSo, counter_exists}
@@ -77,7 +77,7 @@ counts n =
     (λ x. IsStopped e.before) (λ x. IsStopped e.before) (λ t so. (by b t e.after so.0, so.1)) (λ x stopped. stopped) e.event h)
   where
     by : (b : Bool) (t : Tick) (d : Config) → CountsSo Done b t d → FinishesIf b t d
-    by true t d h = subst (λ (x : Answer). Finishes (outcome_by x)) (sym h) tt
+    by true t d h = subst (λ (x : Answer). EndsUnhalted (outcome_by x)) (sym h) tt
     by false t d h = (ap outcome_by h.0, h.1)
 
 halts : (n : ℕ) → Exists (HaltsBefore n)
@@ -149,7 +149,7 @@ starts_on : (w : ℕ) → Starts (powered_up One (memory w)) (powered w)
 starts_on w = record { boundary = refl; running = record { unhalted = refl; unlocked = refl }; idle = refl; agrees = refl }
 
 -- Every word adds 1 to r0 and puts the sum into r5: 5 clocks. An unknown opcode takes 4.
-start : StartsIn (λ s. Changes s × DoesNotHalt s)
+start : StartsIn (λ s. ChangesMore s × DoesNotHalt s)
 unfolding class_of
 start =
     let s : State = powered_up One (memory 0x10050001) in

@@ -16,7 +16,7 @@ use Rattle.clocked.specs.Refusals.{is_at_rest}
 use Rattle.clocked.specs.Processor.{axis_state}
 use Rattle.clocked.specs.Promise.{Agreement, Always, Answering, Starts, Running}
 use Rattle.clocked.specs.Runs.{Config, clocked, reset, Entry, events, Run, none, more, MadeBy, to_reset}
-use Rattle.clocked.specs.Wrong.{FailsFrom, AgreesInDecode, IsResetInDecode, Changes}
+use Rattle.clocked.specs.Wrong.{FailsFrom, AgreesInDecode, IsResetInDecode, ChangesMore}
 use Rattle.clocked.specs.WrongMachines.{Makes, Clocks, IsStopped, GoesTo, Works, WorksAtOnce}
 use Rattle.clocked.proofs.RefutedRuns.{entry, reset_at, Ticked, ticked}
 
@@ -39,7 +39,7 @@ record Worked (M : Entry → Type 0) (first : State) (start : Config) (k : Contr
   shows : axis_state c.processor c.card.map ≡ (step first).1
   same : compared first (events es) ≡ first
 
-module _ (M : Entry → Type 0) (first : State) (start : Config) (changes : Changes first) (answers : Answering M start) (each : Always M start WorksAtOnce) where
+module _ (M : Entry → Type 0) (first : State) (start : Config) (changes : ChangesMore first) (answers : Answering M start) (each : Always M start WorksAtOnce) where
   works_tick : (k : ControlState) (c : Config) (es : List Entry) → Run M start es c → Running c → named c.processor.control ≡ k → Ticked M c (Works k c)
   works_tick k c es run runs state =
       ticked M start c es (Works k c) (λ x. IsStopped c) answers run (λ x stopped. stopped runs) (λ r d run. by r d (each _ _ run))
@@ -95,7 +95,7 @@ module _ (M : Entry → Type 0) (first : State) (start : Config) (changes : Chan
       ∙ ap (λ (r : Result (Unit {0}) Refusal). compared_after (reset r) (compared first (events w.es))) made.0
       ∙ ap restarted w.same
 
-pub works_broken : FailsFrom Changes WorksAtOnce AgreesInDecode
+pub works_broken : FailsFrom ChangesMore WorksAtOnce AgreesInDecode
 works_broken m first start at changes is h =
     let w = at_fetch1 (Makes m) first start changes is.answers is.each at in
     let w = at_fetch2 (Makes m) first start changes is.answers is.each w in

@@ -41,6 +41,13 @@ waits_left (Some t) = t.waits
 abbrev pub Begins : Request → Meaning → Meaning → Type 0
 Begins b c d = (d ≡ waiting b (waits_left d.transfer) c) × (waits_left d.transfer ≤ c.patience)
 
+-- A transfer that a row begins has the waits that the card chooses for it.
+abbrev pub Chosen : (Request → ℕ) → Row → Option Transfer → Option Transfer → Type 0
+Chosen choice (moves m) x y = Unit {0}
+Chosen choice (begins b n) None y = waits_left y ≡ choice b
+Chosen choice (begins b n) (Some t) y = Unit {0}
+Chosen choice (polls take s a) x y = Unit {0}
+
 -- The end of a polled transfer: its word, or a fault.
 abbrev pub Ends : End → (ℕ → Move) → Stage → ℕ → Processor → Answer → Processor → Type 0
 Ends (Ok w) take s a p t q = (t ≡ (take w).0) × (q ≡ (take w).1)

@@ -61,7 +61,7 @@ abbrev pub Asks : Kind
 Asks es e = Clocks (λ t. IsAsked t.answer e.before.card.transfer) (λ r. Unit {0}) e.event
 
 -- The first instruction meets no fault and changes more than PC.
-pub record Changes (s : State) : Type 0 where
+pub record ChangesMore (s : State) : Type 0 where
   pub unhalted : (step s).1.fault ≡ None
   pub more : restarted (step s).1 ≡ restarted s → ⊥
 
@@ -87,7 +87,7 @@ pub record Exists (K : Kind) : Type 0 where
 
 -- There are such starts, and machines of each kind.
 pub record Occurs : Type 0 where
-  pub start : StartsIn (λ s. Changes s × DoesNotHalt s)
+  pub start : StartsIn (λ s. ChangesMore s × DoesNotHalt s)
   pub other : (n : ℕ) → StartsIn (TakesOther n)
   pub works : Exists WorksAtOnce
   pub waits : Exists WaitsUnasked
@@ -100,7 +100,7 @@ pub record Occurs : Type 0 where
 -- The parts of the promise that fail of every machine of each kind, each part by itself.
 pub record Refuted : Type 0 where
   -- by a reset in decode
-  pub works : FailsFrom Changes WorksAtOnce AgreesInDecode
+  pub works : FailsFrom ChangesMore WorksAtOnce AgreesInDecode
   pub waits : Fails WaitsUnasked IsInTime × Fails WaitsUnasked Progresses
   pub counts : (n : ℕ) → FailsFrom (TakesOther (n + 1)) (MakesUpItsCount n) IsCounted
   pub halts : (n : ℕ) → FailsFrom DoesNotHalt (HaltsBefore n) Agrees × Fails (HaltsBefore n) IsInTime

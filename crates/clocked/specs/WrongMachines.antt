@@ -93,14 +93,14 @@ WorksAtOnce es e = WorksIn e.event e.before e.after
 abbrev pub WaitsUnasked : Kind
 WaitsUnasked es e = Clocks (λ t. t.answer ≡ Waiting) (λ r. IsDue e.before) e.event
 
-abbrev pub Finishes : Option Outcome → Type 0
-Finishes None = ⊥
-Finishes (Some Done) = Unit {0}
-Finishes (Some Ignored) = Unit {0}
-Finishes (Some Halted) = ⊥
+abbrev pub EndsUnhalted : Option Outcome → Type 0
+EndsUnhalted None = ⊥
+EndsUnhalted (Some Done) = Unit {0}
+EndsUnhalted (Some Ignored) = Unit {0}
+EndsUnhalted (Some Halted) = ⊥
 
 abbrev pub FinishesIf : Bool → Tick → Config → Type 0
-FinishesIf true t a = Finishes (outcome_by t.answer)
+FinishesIf true t a = EndsUnhalted (outcome_by t.answer)
 FinishesIf false t a = (outcome_by t.answer ≡ None) × Running a
 
 -- Finishes each instruction, whichever it is, with the clock that comes after n others; no transfer that it begins has waits.

@@ -12,7 +12,7 @@ use Rattle.layer.specs.declared.kind.Kind.{Kind}
 use Rattle.layer.specs.Kinds.{address_under, guards, added}
 
 abbrev pub raised : Origin → Origin
-raised o = record { address = o.address; layer = min (o.layer + 1) 255 }
+raised o = record o { layer = min (o.layer + 1) 255 }
 
 -- A cell from below, guarded or not, at the layer's own address a.
 abbrev pub lifted : Bool → ℕ → Cell → Cell

@@ -1,9 +1,9 @@
 // A layer over any card. It keeps its transfer in a port of its own: begin asks the card below how long it would wait, and the end of
 // the transfer looks and places below. So between calls the card below has no transfer, which its type says.
-ghost use Rattle.std.specs.Prelude.{◌≡◌, ◌≤◌, ◌+◌, true, false, None};
+ghost use Rattle.std.specs.Prelude.{◌≡◌, ◌≤◌, ◌+◌, true, false, None, Ok, OnErr};
 ghost use Rattle.layer.specs.declared.kind.Kind.{Kind};
-ghost use Rattle.layer.specs.Kinds.{within, added};
-ghost use Rattle.card.specs.Meaning.{Begun, idle};
+ghost use Rattle.layer.specs.Kinds.{within, added, address_under, guards};
+ghost use Rattle.card.specs.Meaning.{Begun, Placed, Polled, idle};
 ghost use Rattle.layer.specs.Waits.{waits_of, refuses, asks_below};
 ghost use Rattle.layer.specs.Laws.{Laws};
 ghost use Rattle.layer.specs.Shown.{layered, raised};
@@ -57,7 +57,14 @@ impl<C: Card> Cells for Layer<C> {
         below + self.kind.added(below)
     }
 
-    fn place(&mut self, address: u32, word: u32) -> Result<(), Refusal> {
+    fn place(&mut self, address: u32, word: u32) -> Result<(), Refusal>
+        ensures placed { Placed (layered self.old.kind (C.Cells.meaning self.old.below) self.old.port.transfer) address word
+            result (layered self.new.kind (C.Cells.meaning self.new.below) self.new.port.transfer) }
+        ensures kind { self.new.kind ≡ self.old.kind }
+        ensures frame { C.Cells.frame self.new.below ≡ C.Cells.frame self.old.below }
+        ensures guarded { guards self.old.kind address ≡ true → self.new.below ≡ self.old.below }
+        ensures absent { address_under self.old.kind address ≡ None → self.new.below ≡ self.old.below }
+    {
         match self.kind.address_below(address) {
             Some(below) if !self.kind.guards(address) => self.below.place(below, word),
             _ => Err(Refusal::NotOpen),
@@ -90,14 +97,27 @@ impl<C: Card> Card for Layer<C> {
         self.port.begin(request, waits)
     }
 
-    fn poll(&mut self) -> Result<Option<End>, Refusal> {
+    fn poll(&mut self) -> Result<Option<End>, Refusal>
+        ensures polled { Polled (layered self.old.kind (C.Cells.meaning self.old.below) self.old.port.transfer)
+            result (layered self.new.kind (C.Cells.meaning self.new.below) self.new.port.transfer) }
+        ensures kind { self.new.kind ≡ self.old.kind }
+        ensures frame { C.Cells.frame self.new.below ≡ C.Cells.frame self.old.below }
+        ensures waits { result ≡ Ok None → self.new.below ≡ self.old.below }
+        ensures refused { OnErr result (self.new.below ≡ self.old.below) }
+    {
         let Some(request) = self.port.poll()? else {
             return Ok(None);
         };
         Ok(Some(finish(self, request)))
     }
 
-    fn cancel(&mut self) {
+    fn cancel(&mut self)
+        ensures cancelled { layered self.new.kind (C.Cells.meaning self.new.below) self.new.port.transfer
+            ≡ idle (layered self.old.kind (C.Cells.meaning self.old.below) self.old.port.transfer) }
+        ensures kind { self.new.kind ≡ self.old.kind }
+        ensures frame { C.Cells.frame self.new.below ≡ C.Cells.frame self.old.below }
+        ensures below { self.new.below ≡ self.old.below }
+    {
         self.port.cancel();
     }
 }

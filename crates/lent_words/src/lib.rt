@@ -2,7 +2,7 @@
 // Each layer lies over a card that is lent, in a function of its own, so that the prover follows the loan through the stack.
 #![tactic(auto)]
 
-ghost use Rattle.std.specs.Prelude.{◌≡◌};
+ghost use Rattle.std.specs.Prelude.{◌≡◌, None};
 ghost use Rattle.card.specs.Bottom.{beyond};
 ghost use Rattle.layer.specs.declared.kind.Kind.TheVariants.{Slow};
 ghost use Rattle.clocked.specs.Runs.{config};
@@ -29,6 +29,7 @@ pub fn run_over<C: Card>(card: &mut C, base: u32, waits: u8, axis: Axis, clocks:
     ensures ran { Ran axis clocks (under_both base waits) (C.Cells.meaning card.old)
         result (C.Cells.meaning card.new) }
     ensures frame { C.Cells.frame card.new ≡ C.Cells.frame card.old }
+    ensures idle { (C.Cells.meaning card.new).transfer ≡ None }
 {
     let mut offset = Layer::new(Kind::Offset(base), card);
     run_slowed(&mut offset, waits, axis, clocks)

@@ -1,5 +1,5 @@
 // One clock: a row of the clock table.
-ghost use Rattle.std.specs.Prelude.{◌≡◌, false};
+ghost use Rattle.std.specs.Prelude.{◌≡◌, false, true};
 ghost use Rattle.isa.specs.Branch.{taken_by};
 ghost use Rattle.isa.specs.Opcodes.{class_of};
 ghost use Rattle.machine.specs.declared.machine.Outcome.TheVariants.{Done, Halted};
@@ -7,6 +7,7 @@ ghost use Rattle.machine.specs.State.{plus};
 ghost use Rattle.clocked.specs.declared.control.Control.TheVariants.{Fetch0, Fetch1};
 ghost use Rattle.clocked.specs.declared.tick.Answer.TheVariants.{On, Ended};
 ghost use Rattle.clocked.specs.Advance.{Advanced, PolledFor, is_poll};
+ghost use Rattle.clocked.specs.Calls.{Chosen};
 ghost use Rattle.clocked.specs.Control.{reads_at};
 ghost use Rattle.clocked.specs.Changes.{going, going_at, noting, written_back, halting};
 ghost use Rattle.clocked.specs.Refusals.{asks_card};
@@ -32,6 +33,8 @@ impl Processor {
             (config self.new (C.Cells.meaning card.new)) }
         ensures frame { C.Cells.frame card.new ≡ C.Cells.frame card.old }
         ensures untouched { asks_card self.old ≡ false → card.new ≡ card.old }
+        ensures chosen { asks_card self.old ≡ true → Chosen (C.choice card.old) (row_of self.old.control self.old)
+            (C.Cells.meaning card.old).transfer (C.Cells.meaning card.new).transfer }
     {
         if self.locked {
             return Err(Refusal::KeyOut);
@@ -51,6 +54,8 @@ impl Processor {
             result self.new (C.Cells.meaning card.new) }
         ensures frame { C.Cells.frame card.new ≡ C.Cells.frame card.old }
         ensures untouched { asks (row_of self.old.control self.old) ≡ false → card.new ≡ card.old }
+        ensures chosen { Chosen (C.choice card.old) (row_of self.old.control self.old)
+            (C.Cells.meaning card.old).transfer (C.Cells.meaning card.new).transfer }
     {
         let answer = match (&self.control, self.poll(card)?) {
             (&Control::Fetch0, _) => self.fetch(),
