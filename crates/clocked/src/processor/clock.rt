@@ -1,5 +1,5 @@
 // One clock: a row of the clock table.
-ghost use Rattle.std.specs.Prelude.{◌≡◌, false, true};
+ghost use Rattle.std.specs.Prelude.{◌≡◌, false, OnOk};
 ghost use Rattle.isa.specs.Branch.{taken_by};
 ghost use Rattle.isa.specs.Opcodes.{class_of};
 ghost use Rattle.machine.specs.declared.machine.Outcome.TheVariants.{Done, Halted};
@@ -33,8 +33,8 @@ impl Processor {
             (config self.new (C.Cells.meaning card.new)) }
         ensures frame { C.Cells.frame card.new ≡ C.Cells.frame card.old }
         ensures untouched { asks_card self.old ≡ false → card.new ≡ card.old }
-        ensures chosen { asks_card self.old ≡ true → Chosen (C.choice card.old) (row_of self.old.control self.old)
-            (C.Cells.meaning card.old).transfer (C.Cells.meaning card.new).transfer }
+        ensures chosen { OnOk result (Chosen (C.choice card.old) (row_of self.old.control self.old)
+            (C.Cells.meaning card.old).transfer (C.Cells.meaning card.new).transfer) }
     {
         if self.locked {
             return Err(Refusal::KeyOut);
