@@ -1,1 +1,2 @@
 mod Layers
+mod Steadying

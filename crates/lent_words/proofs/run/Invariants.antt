@@ -6,7 +6,7 @@ use Rattle.lent_words.proofs.run.Given as goal
 
 abbrev pub invariant-clocks : goal.invariant-clocks
 invariant-clocks g l = record {
-  ran : (c : Config) → ClocksTo (l.clocks - l.counter) (config l.processor (g.C.Cells.meaning l.card)) c
-      → ClocksTo l.clocks (config l.initial.processor (g.C.Cells.meaning l.initial.card)) c;
+  ran : (c : Config) → ClocksTo (g.C.Card.choice l.initial.card) (l.clocks - l.counter) (config l.processor (g.C.Cells.meaning l.card)) c
+      → ClocksTo (g.C.Card.choice l.initial.card) l.clocks (config l.initial.processor (g.C.Cells.meaning l.initial.card)) c;
   frame : g.C.Cells.frame l.card ≡ g.C.Cells.frame l.initial.card;
 }
