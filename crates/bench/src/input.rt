@@ -1,8 +1,8 @@
 // The text of a scenario, from standard input or from the files named as arguments, and its lines.
-use command::{Command, Wrong};
-use std::alloc::{AllocError, Global};
+use command::{Bottom, Command, Wrong};
+use memchr::memchr;
 use std::io::Read;
-use std::{env, fs, io, mem};
+use std::{env, fs, io, slice};
 
 // A line that has a command or is wrong, by its number in its file. The command borrows the file's text.
 #[derive(Drop)]
@@ -15,7 +15,18 @@ impl<'t> Line<'t> {
     pub fn command(&self) -> Result<&Command<'t>, Wrong> {
         self.command.as_ref().map_err(|wrong| *wrong)
     }
+
+    // The card that the line puts in.
+    pub fn card(&self) -> Option<NewCard> {
+        match self.command {
+            Ok(Command::Card(bottom, count)) => Some((bottom, count)),
+            _ => None,
+        }
+    }
 }
+
+// A bottom card, and how many words it has.
+pub type NewCard = (Bottom, u32);
 
 // The text of each file; None, and a line that says which, if one cannot be read.
 pub fn gather(rt: &HostRuntime) -> io::Result<Option<Vec<Vec<u8>>>> {
@@ -37,22 +48,45 @@ pub fn gather(rt: &HostRuntime) -> io::Result<Option<Vec<Vec<u8>>>> {
     Ok(Some(files))
 }
 
-// The lines of all files, parted before each card: the lines before the first one, then those of each scenario.
-pub fn scenarios<'t>(heap: Global, files: &'t [Vec<u8>]) -> Result<Vec<Vec<Line<'t>>>, AllocError> {
-    let mut scenarios = Vec::new(heap);
-    let mut lines = Vec::new(heap);
-    for file in files {
-        // lines are counted from 1 in each file
-        for (number, text) in (1u64..).zip(file.split(|byte| *byte == b'\n')) {
-            let Some(command) = command::read(text).transpose() else {
-                continue;
-            };
-            if let Ok(Command::Card(_, _)) = command {
-                scenarios.push(mem::replace(&mut lines, Vec::new(heap)))?;
-            }
-            lines.push(Line { number, command })?;
+// The lines that are left. Each is read when it is asked for, so that no line is kept.
+#[derive(Drop)]
+pub struct Lines<'t> {
+    files: slice::Iter<'t, Vec<u8>>,
+    // what is left of the file that is being read, and how many of its lines came before that
+    text: &'t [u8],
+    number: u64,
+}
+
+impl<'t> Lines<'t> {
+    pub fn of(files: &'t [Vec<u8>]) -> Lines<'t> {
+        Lines {
+            files: files.iter(),
+            text: &[],
+            number: 0,
         }
     }
-    scenarios.push(lines)?;
-    Ok(scenarios)
+
+    // The next line that has a command or is wrong.
+    pub fn next(&mut self) -> Option<Line<'t>> {
+        for _ in 0..u64::MAX {
+            let (number, text) = self.next_text()?;
+            if let Some(command) = command::read(text).transpose() {
+                return Some(Line { number, command });
+            }
+        }
+        None
+    }
+
+    // The next line of all, which lacks its end, by its number in its file.
+    fn next_text(&mut self) -> Option<(u64, &'t [u8])> {
+        if self.text.is_empty() {
+            self.text = self.files.find(|file| !file.is_empty())?.as_slice();
+            self.number = 0;
+        }
+        let end = memchr(b'\n', self.text).unwrap_or(self.text.len());
+        let (text, rest) = self.text.split_at(end);
+        self.text = rest.get(1..).unwrap_or(&[]);
+        self.number = self.number.saturating_add(1);
+        Some((self.number, text))
+    }
 }

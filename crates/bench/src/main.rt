@@ -3,6 +3,7 @@
 #![tactic(auto)]
 
 use anyhow::anyhow;
+use input::Lines;
 use mistake::Report;
 
 mod axis;
@@ -19,9 +20,7 @@ mod stack;
 fn main(rt: HostRuntime) -> anyhow::Result<()> {
     let files = input::gather(&rt)?.ok_or_else(|| anyhow!("a file cannot be read"))?;
     let mut report = Report::new(&rt);
-    for lines in &input::scenarios(rt.alloc(), &files)? {
-        scenario::run(&rt, &mut report, lines)?;
-    }
+    scenario::play(&rt, &mut report, &mut Lines::of(&files))?;
     if report.all_right() {
         Ok(())
     } else {

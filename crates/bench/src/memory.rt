@@ -31,8 +31,7 @@ impl Memory {
             .as_mut_slice()
             .get_mut(from as usize..)
             .ok_or(Mistake::WordsPastMemory)?;
-        // a number for which there is no place
-        if list.iter().nth(places.len()).is_some() {
+        if list.len() > places.len() {
             return Err(Mistake::WordsPastMemory);
         }
         for (place, word) in places.iter_mut().zip(list.iter()) {

@@ -1,101 +1,108 @@
 // A scenario: a card, then an axis on it, until the next card.
-use super::axis::{Axis, PowerUp};
+use super::axis::PowerUp;
 use super::cells::OnCells;
-use super::input::Line;
+use super::input::{Line, Lines, NewCard};
 use super::memory::Memory;
 use super::mistake::{Mistake, Report};
-use super::session::Session;
+use super::session::{Session, SessionEnd};
 use command::{Command, Numbers};
 use layer::Kind;
-use std::{io, slice};
+use std::io;
 
-// Carries out the lines of a scenario, which the line of its card begins; without a card none can be carried out.
-pub fn run(rt: &HostRuntime, report: &mut Report<'_>, lines: &[Line<'_>]) -> io::Result<()> {
-    match lines {
-        [] => Ok(()),
-        [first, rest @ ..] => {
-            match first.command() {
-                Ok(Command::Card(bottom, count)) => {
-                    let memory = Memory::new(rt.alloc(), *bottom, *count)?;
-                    println!(rt; "card ok")?;
-                    on_card(rt, report, memory, rest)
-                }
-                _ => without_card(report, lines),
-            }
-        }
+// Carries out all lines, a scenario at a time: each begins at the line of its card, and ends before the next one.
+pub fn play(rt: &HostRuntime, report: &mut Report<'_>, lines: &mut Lines<'_>) -> io::Result<()> {
+    let mut next = without_card(report, lines)?;
+    for _ in 0..u64::MAX {
+        let Some((bottom, count)) = next else {
+            break;
+        };
+        let memory = Memory::new(rt.alloc(), bottom, count)?;
+        println!(rt; "card ok")?;
+        next = on_card(rt, report, memory, lines)?;
     }
+    Ok(())
 }
 
-fn without_card(report: &mut Report<'_>, lines: &[Line<'_>]) -> io::Result<()> {
-    for line in lines {
+// The lines up to the first card: without one none can be carried out.
+fn without_card(report: &mut Report<'_>, lines: &mut Lines<'_>) -> io::Result<Option<NewCard>> {
+    for _ in 0..u64::MAX {
+        let Some(line) = lines.next() else {
+            break;
+        };
+        if let Some(card) = line.card() {
+            return Ok(Some(card));
+        }
         let mistake = line
             .command()
             .map_or_else(Mistake::from, |_| Mistake::NoCard);
         report.mistake(line.number, mistake)?;
     }
-    Ok(())
+    Ok(None)
 }
 
+// Carries out the lines up to the next card, which is the answer.
 fn on_card(
     rt: &HostRuntime,
     report: &mut Report<'_>,
     mut memory: Memory,
-    lines: &[Line<'_>],
-) -> io::Result<()> {
-    let mut lines = lines.iter();
-    match set_up(rt, report, &mut memory, &mut lines)? {
-        Some(axis) => memory.perform(
-            rt,
-            Session {
-                axis,
-                lines,
-                report,
-            },
-        ),
-        None => Ok(()),
-    }
-}
-
-// Carries out the lines up to the first accepted power-up; its axis, if there is one.
-fn set_up(
-    rt: &HostRuntime,
-    report: &mut Report<'_>,
-    memory: &mut Memory,
-    lines: &mut slice::Iter<'_, Line<'_>>,
-) -> io::Result<Option<Axis>> {
-    for line in lines.by_ref() {
-        match carry_out(rt, memory, line) {
-            Ok(None) => {}
-            Ok(axis) => return Ok(axis),
-            Err(mistake) => report.mistake(line.number, mistake)?,
+    lines: &mut Lines<'_>,
+) -> io::Result<Option<NewCard>> {
+    for _ in 0..u64::MAX {
+        let power_up = match set_up(rt, report, &mut memory, lines)? {
+            SetUp::Power(power_up) => power_up,
+            SetUp::Over(next) => return Ok(next),
+        };
+        let session = Session {
+            power_up,
+            lines: &mut *lines,
+            report: &mut *report,
+        };
+        if let SessionEnd::Over(next) = memory.perform(rt, session)? {
+            return Ok(next);
         }
     }
     Ok(None)
 }
 
-// Carries out a line before power-up, or an accepted power-up.
-fn carry_out(
+// What ends the part of a scenario that has no axis: a power-up, or else the scenario is over, at the next card if there is one.
+#[derive(Drop)]
+enum SetUp {
+    Power(PowerUp),
+    Over(Option<NewCard>),
+}
+
+// Carries out the lines up to a power-up.
+fn set_up(
     rt: &HostRuntime,
+    report: &mut Report<'_>,
     memory: &mut Memory,
-    line: &Line<'_>,
-) -> Result<Option<Axis>, Mistake> {
+    lines: &mut Lines<'_>,
+) -> io::Result<SetUp> {
+    for _ in 0..u64::MAX {
+        let Some(line) = lines.next() else {
+            break;
+        };
+        match line.command {
+            Ok(Command::Card(bottom, count)) => return Ok(SetUp::Over(Some((bottom, count)))),
+            Ok(Command::Power(kind, axis)) => return Ok(SetUp::Power(PowerUp { kind, axis })),
+            _ => {}
+        }
+        if let Err(mistake) = carry_out(rt, memory, &line) {
+            report.mistake(line.number, mistake)?;
+        }
+    }
+    Ok(SetUp::Over(None))
+}
+
+// Carries out a line before power-up.
+fn carry_out(rt: &HostRuntime, memory: &mut Memory, line: &Line<'_>) -> Result<(), Mistake> {
     let command = line.command()?;
     if let Some(task) = OnCells::of(rt, command)? {
-        memory.perform(rt, task)?;
-        return Ok(None);
+        return Ok(memory.perform(rt, task)?);
     }
     match command {
         Command::Words(from, list) => store(rt, memory, *from, list)?,
         Command::Layer(kind) => add_layer(rt, memory, *kind)?,
-        Command::Power(kind, axis) => {
-            return Ok(memory.perform(
-                rt,
-                PowerUp {
-                    kind: *kind,
-                    axis: *axis,
-                },
-            )?);
-        }
         Command::Clock(_)
         | Command::Instruction(_)
         | Command::Reset
@@ -106,14 +113,15 @@ fn carry_out(
         | Command::Flags
         | Command::Pc
         | Command::Fault => return Err(Mistake::NoAxis),
-        // a card begins the next scenario, and what is done on cells is done above
+        // a card and a power-up end this part, and what is done on cells is done above
         Command::Card(_, _)
+        | Command::Power(_, _)
         | Command::Look(_)
         | Command::Memory(_, _)
         | Command::Place(_, _)
         | Command::Load(_) => {}
     }
-    Ok(None)
+    Ok(())
 }
 
 fn store(

@@ -1,37 +1,55 @@
-// An axis on its card, from the first accepted power-up of a scenario to its end.
+// An axis on its card, from its power-up to the end of its scenario.
 use super::axis::{Axis, PowerUp};
 use super::axis_commands;
 use super::cells::OnCells;
-use super::input::Line;
+use super::input::{Line, Lines, NewCard};
 use super::mistake::{Mistake, Report};
 use super::stack::Task;
 use card::Card;
 use command::Command;
-use std::{io, slice};
+use std::io;
 
 // All lines after a power-up are one task on one stack, since a transfer can last from a line to the next.
 #[derive(Drop)]
 pub struct Session<'l, 't, 'r, 'a> {
-    pub axis: Axis,
-    pub lines: slice::Iter<'l, Line<'t>>,
+    pub power_up: PowerUp,
+    pub lines: &'l mut Lines<'t>,
     pub report: &'r mut Report<'a>,
 }
 
-impl Task for Session<'_, '_, '_, '_> {
-    type Answer = ();
+// How a session ended.
+#[derive(Drop)]
+pub enum SessionEnd {
+    // the power-up was refused, so that there was none
+    Refused,
+    // the scenario is over, at the card of the next one if there is one
+    Over(Option<NewCard>),
+}
 
-    fn perform<C: Card>(self, rt: &HostRuntime, card: &mut C) -> io::Result<()> {
+impl Task for Session<'_, '_, '_, '_> {
+    type Answer = SessionEnd;
+
+    fn perform<C: Card>(self, rt: &HostRuntime, card: &mut C) -> io::Result<SessionEnd> {
         let Session {
-            mut axis,
+            power_up,
             lines,
             report,
         } = self;
-        for line in lines {
-            if let Err(mistake) = carry_out(rt, card, &mut axis, line) {
+        let Some(mut axis) = power_up.perform(rt, card)? else {
+            return Ok(SessionEnd::Refused);
+        };
+        for _ in 0..u64::MAX {
+            let Some(line) = lines.next() else {
+                break;
+            };
+            if let Some(card) = line.card() {
+                return Ok(SessionEnd::Over(Some(card)));
+            }
+            if let Err(mistake) = carry_out(rt, card, &mut axis, &line) {
                 report.mistake(line.number, mistake)?;
             }
         }
-        Ok(())
+        Ok(SessionEnd::Over(None))
     }
 }
 

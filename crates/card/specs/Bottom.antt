@@ -1,17 +1,15 @@
 -- The meaning of the two bottom cards, which lie over lent words.
 -- A reader must believe: address n has a cell if word n is there and n is below 65,536, and is absent otherwise, with
--- the card itself as origin. The word card's cells are open, the boot card's fixed. No transfer has a wait.
+-- the card itself as origin. The word card's cells are open, the boot card's fixed. No transfer has a wait, which is an invariant of
+-- the card's type.
 use Rattle.std.specs.Prelude.{◌≡◌, ℕ, Bool, ◌&&◌, List, length, drop, Some, None, Option, nat_lt, slice_index, slice_set, if◌then◌else◌}
 use Rattle.std.specs.Borrow.{GName, MutBor}
 use Rattle.card.specs.declared.cell.Cell.TheVariants.{Absent, Fixed, Open}
-use Rattle.card.specs.declared.cell.Origin.{Origin}
 use Rattle.card.specs.declared.transfer.Direction.{Direction}
 use Rattle.card.specs.declared.transfer.Direction.TheVariants.{Read, Write}
-use Rattle.card.specs.declared.transfer.Request.{Request}
 use Rattle.card.specs.declared.transfer.Transfer.{Transfer}
 use Rattle.card.specs.Cells.{here, Map}
 use Rattle.card.specs.Meaning.{Meaning}
-use Rattle.card.specs.Ports.{ended}
 
 -- Whether so many words have one for the address a.
 abbrev pub addressed : ℕ → ℕ → Bool
@@ -34,6 +32,11 @@ fixed_cells ws a = if has ws a then Fixed (slice_index ws a) (here a) else Absen
 abbrev pub bottom : Map → Option Transfer → Meaning
 bottom f t = record { map = f; transfer = t; patience = 0 }
 
+-- How many waits the transfer in being, if any, has left.
+abbrev pub waits_left : Option Transfer → ℕ
+waits_left None = 0
+waits_left (Some t) = t.waits
+
 -- The words after w was stored at the address a, where they have one for it.
 abbrev pub written : List ℕ → ℕ → ℕ → List ℕ
 written ws a w = if has ws a then slice_set ws a w else ws
@@ -47,19 +50,15 @@ pub record Keeps (before after : MutBor (List ℕ)) (words : List ℕ) : Type 0 
 abbrev pub Written : MutBor (List ℕ) → ℕ → ℕ → MutBor (List ℕ) → Type 0
 Written before a w after = Keeps before after (written before.now a w)
 
--- A memory after a poll that ended this request, if any, by what storing a word leaves of it.
+-- A memory after a request was carried out, by what storing a word leaves of it.
 abbrev pub AfterRequest : {X : Type 0} → (X → ℕ → ℕ → X → Type 0) → Direction → ℕ → X → X → Type 0
 AfterRequest Rewritten Read a before after = after ≡ before
 AfterRequest Rewritten (Write w) a before after = Rewritten before a w after
 
-abbrev pub AfterEnd : {X : Type 0} → (X → ℕ → ℕ → X → Type 0) → Option Request → X → X → Type 0
-AfterEnd Rewritten None before after = after ≡ before
-AfterEnd Rewritten (Some q) before after = AfterRequest Rewritten q.direction q.address before after
-
--- A memory after a poll of the transfer in being, if any.
+-- A memory after a poll, which ends the transfer in being, if any.
 abbrev pub After : {X : Type 0} → (X → ℕ → ℕ → X → Type 0) → Option Transfer → X → X → Type 0
 After Rewritten None before after = after ≡ before
-After Rewritten (Some t) before after = AfterEnd Rewritten (ended t.request t.waits) before after
+After Rewritten (Some t) before after = AfterRequest Rewritten t.request.direction t.request.address before after
 
 -- The words that have no address, whatever their number. Not unfolded by the search for proofs, which would count to 65,536.
 unfoldable pub beyond : List ℕ → List ℕ

@@ -4,19 +4,20 @@ ghost use Rattle.card.specs.Ends.{end_of, leaves};
 ghost use Rattle.card.specs.Meaning.{mapped};
 
 use super::card::Cells;
+use super::cell::Cell;
 use super::transfer::{Direction, End, Request};
 
 // Carries a request out on the cells.
+#[inline(always)]
 pub fn finish<C: Cells>(cells: &mut C, request: Request) -> End
     ensures answer { result ≡ end_of request.direction ((C.Cells.meaning cells.old).map request.address) }
     ensures after { C.Cells.meaning cells.new
         ≡ mapped (leaves request (C.Cells.meaning cells.old).map) (C.Cells.meaning cells.old) }
     ensures frame { C.Cells.frame cells.new ≡ C.Cells.frame cells.old }
 {
-    let end = request.direction.end(cells.look(request.address));
-    if let Direction::Write(word) = request.direction {
-        // refused where the cell is not open, and then nothing changes
+    let cell = cells.look(request.address);
+    if let (Direction::Write(word), Cell::Open(_)) = (request.direction, cell) {
         let _ = cells.place(request.address, word);
     }
-    end
+    request.direction.end(cell)
 }

@@ -1,11 +1,11 @@
 // Cards over lent words, whose transfers never wait. What the words are lent for makes the difference: words lent for writing
 // are open cells, words lent for reading are fixed ones.
 // Beside the interface's own clause, each call says what the memory is then: so the lent words hold what was stored in them.
-ghost use Rattle.std.specs.Prelude.{◌≡◌, ℕ, List, None};
+ghost use Rattle.std.specs.Prelude.{◌≡◌, ℕ, List, None, Ok};
 ghost use Rattle.std.proofs.Common.{zero-le};
 ghost use Rattle.card.specs.Cells.{Map};
 ghost use Rattle.card.specs.Meaning.{Placed, Begun, Polled, idle};
-ghost use Rattle.card.specs.Bottom.{addressed, word_at, open_cells, fixed_cells, bottom, After, Keeps, Written, Loan, loan_of};
+ghost use Rattle.card.specs.Bottom.{addressed, word_at, open_cells, fixed_cells, bottom, waits_left, After, Keeps, Written, Loan, loan_of};
 
 use super::card::{Card, Cells};
 use super::cell::{Cell, Origin};
@@ -103,6 +103,7 @@ impl<'a> Memory for &'a [u32] {
 pub struct BottomCard<M> {
     memory: M,
     port: Port,
+    ghost unwaited: { waits_left port.transfer ≡ 0 },
 }
 
 // Open cells over words that are lent for writing.
@@ -193,6 +194,7 @@ impl<M: Memory> Card for BottomCard<M> {
         ensures polled { Polled (bottom (M.cells self.old.memory) self.old.port.transfer)
             result (bottom (M.cells self.new.memory) self.new.port.transfer) }
         ensures frame { M.frame self.new.memory ≡ M.frame self.old.memory }
+        ensures ends { result ≡ Ok None → ⊥ }
         ensures memory { After M.Rewritten self.old.port.transfer self.old.memory self.new.memory }
     {
         let Some(request) = self.port.poll()? else {

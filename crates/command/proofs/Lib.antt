@@ -1,2 +1,3 @@
 mod Positions
-mod Digits
+mod Bases
+mod Counts

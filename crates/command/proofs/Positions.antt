@@ -1,13 +1,18 @@
 -- What `position` finds in a text, and the words on both sides of that.
-use Rattle.std.proofs.Common.{◌≡◌, ℕ, suc, ◌+◌, ◌<◌, ◌≤◌, Bool, true, false, not, cond, List, [], ◌∷◌, ◌++◌, length, take, drop, Some, None, sym, refl, ap, ◌∙◌, append_assoc, append-nil, ⊎_elim, arith}
+use Rattle.std.proofs.Common.{◌≡◌, ℕ, suc, ◌+◌, ◌<◌, ◌≤◌, Bool, true, false, not, cond, ◌==◌, List, [], ◌∷◌, ◌++◌, length, take, drop, Option, Some, None, sym, refl, ap, ◌∙◌, append_assoc, append-nil, ⊎_elim, arith}
 use Rattle.std.specs.List.{position, position_or_len}
 use Rattle.std.specs.Option.{unwrap_or}
 use Rattle.std.proofs.lemmas.Bool.{cases_Bool, cond-true, cond-false}
 use Rattle.std.proofs.lemmas.Bool.Decides.{nat_tests}
 use Rattle.std.proofs.lemmas.List.{at_drop_all}
 use Rattle.std.proofs.lemmas.List.Quantifiers.{position-Some}
-use Rattle.std.proofs.lemmas.List.Sums.{prefix_len-le-length}
+use Rattle.std.proofs.lemmas.List.Sums.{prefix_len-le-length, position_or_len_is}
+use Rattle.memchr.specs.Find.{IsFirstByte, is_byte}
 use Rattle.command.specs.Words.{blank, ended, words_after, words_of}
+
+not_true : {b : Bool} → ¬ (b ≡ true) → b ≡ false
+not_true {b = true} h = absurd (h refl)
+not_true {b = false} h = refl
 
 module _ {X : Type 0} (p : X → Bool) (xs : List X) where
   pub found : (i : ℕ) → position p xs ≡ Some i → i ≡ position_or_len p xs
@@ -18,6 +23,14 @@ module _ {X : Type 0} (p : X → Bool) (xs : List X) where
 
   pub or_length : unwrap_or (position p xs) (length xs) ≡ position_or_len p xs
   or_length = grind (arith, nat_tests, prefix_len-le-length (λ x. not (p x)) xs)
+
+-- the answer of a search for a byte
+pub first_byte : (a : ℕ) (xs : List ℕ) (r : Option ℕ) → IsFirstByte (is_byte a) xs r
+    → unwrap_or r (length xs) ≡ position_or_len (λ b. b == a) xs
+first_byte a xs None none =
+    sym (position_or_len_is _ xs (length xs) 0 (omega arith) (λ k low. not_true (none k (omega arith) low)) (λ h. absurd (omega arith)))
+first_byte a xs (Some k) told =
+    sym (position_or_len_is _ xs k 0 (omega (arith, told.0.high)) (λ j low. not_true (told.0.before j (omega arith) low)) (λ h. told.1))
 
 abbrev pub not_blank : ℕ → Bool
 not_blank b = not (blank b)

@@ -2,11 +2,13 @@
 ghost use Rattle.std.specs.Prelude.{◌≡◌};
 ghost use Rattle.command.specs.Words.{before_comment, bad, any_bad};
 
+use memchr::memchr;
+
 // The line up to its comment.
 pub fn before_comment(line: &[u8]) -> &[u8]
     ensures { result.now ≡ before_comment line.now }
 {
-    let end = line.iter().position(|b| *b == b'#').unwrap_or(line.len());
+    let end = memchr(b'#', line).unwrap_or(line.len());
     &line[..end]
 }
 
@@ -20,5 +22,10 @@ fn is_bad(b: u8) -> bool
 pub fn has_bad_byte(text: &[u8]) -> bool
     ensures { result ≡ any_bad text.now }
 {
-    text.iter().any(|b| is_bad(*b))
+    // to the text's end and without a branch, so that many bytes are tested at once
+    let mut bad = false;
+    for b in text {
+        bad |= is_bad(*b);
+    }
+    bad
 }

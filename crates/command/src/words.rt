@@ -81,16 +81,19 @@ impl<'a> Words<'a> {
     }
 
     // The numbers of all words that are left.
+    #[tactic(auto, using(crate::proofs::Counts::few_words))]
     pub fn numbers(&mut self) -> Result<Numbers<'a>, Wrong>
         ensures listed { result ≡ numbers_of self.old }
         ensures all { OnOk result (self.new ≡ []) }
     {
         let words = self.again();
+        let mut count = 0;
         // a `for` over `self.by_ref()` leaves `all` open: what it leaves of `self` is not known
         while let Some(word) = self.next() {
             number(word)?;
+            count += 1;
         }
-        Ok(Numbers { words })
+        Ok(Numbers { words, count })
     }
 
     // That no word is left.
@@ -108,10 +111,11 @@ impl<'a> Words<'a> {
 #[derive(Drop)]
 pub struct Numbers<'a> {
     words: Words<'a>,
+    count: usize,
 }
 
 impl<'a> Model for Numbers<'a> {
-    ghost use Rattle.std.specs.Prelude.{ℕ, List, [], IsOk};
+    ghost use Rattle.std.specs.Prelude.{◌≡◌, ℕ, List, [], length, IsOk};
     ghost use Rattle.std.specs.Result.{result_unwrap_or};
     ghost use Rattle.command.specs.Numbers.{numbers_of};
 
@@ -119,7 +123,7 @@ impl<'a> Model for Numbers<'a> {
 
     ghost view = { λ s. result_unwrap_or (numbers_of s.words) [] };
 
-    ghost invariant = { λ s. IsOk (numbers_of s.words) };
+    ghost invariant = { λ s. IsOk (numbers_of s.words) × (s.count ≡ length s.words) };
 }
 
 impl Iterator for Numbers<'_> {
@@ -129,7 +133,9 @@ impl Iterator for Numbers<'_> {
 
     ghost remaining = { item_count (λ numbers. numbers) };
 
+    #[inline(always)]
     fn next(&mut self) -> Option<u32> {
+        self.count = self.count.saturating_sub(1);
         number(self.words.next()?).ok()
     }
 }
@@ -141,7 +147,16 @@ impl<'a> Numbers<'a> {
     {
         Numbers {
             words: self.words.again(),
+            count: self.count,
         }
+    }
+
+    // How many numbers there are.
+    #[tactic(auto, using(crate::proofs::Counts::numbers_count))]
+    pub fn len(&self) -> usize
+        ensures { result ≡ length self.now }
+    {
+        self.count
     }
 
     pub fn is_empty(&self) -> bool

@@ -80,6 +80,7 @@ impl<C: Card> Card for Layer<C> {
     }
 
     // A transfer that is refused here is not asked for below.
+    #[inline(always)]
     fn begin(&mut self, request: Request) -> Result<u16, Refusal>
         ensures begun { Begun
             (waits_of self.old.kind (C.Cells.meaning self.old.below) (C.choice self.old.below) request)
@@ -97,6 +98,7 @@ impl<C: Card> Card for Layer<C> {
         self.port.begin(request, waits)
     }
 
+    #[inline(always)]
     fn poll(&mut self) -> Result<Option<End>, Refusal>
         ensures polled { Polled (layered self.old.kind (C.Cells.meaning self.old.below) self.old.port.transfer)
             result (layered self.new.kind (C.Cells.meaning self.new.below) self.new.port.transfer) }
@@ -142,6 +144,7 @@ impl<C: Card> Layer<C> {
     }
 
     // How long the card below would wait, and what the layer adds; no waits where the layer itself refuses.
+    #[inline(always)]
     fn waits(&mut self, request: Request) -> u16
         ensures chosen { result ≡ waits_of self.old.kind (C.Cells.meaning self.old.below) (C.choice self.old.below) request }
         ensures within { result ≤ (C.Cells.meaning self.old.below).patience + added self.old.kind (C.Cells.meaning self.old.below).patience }

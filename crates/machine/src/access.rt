@@ -7,6 +7,8 @@ use card::{Card, Direction, End, Request};
 use refusal::Refusal;
 
 // Runs a transfer to its end, however long it waits; refused while another is in being.
+// Inlined with the card's begin and poll, so that a transfer that waits stays in registers.
+#[inline(always)]
 pub fn complete<C: Card>(card: &mut C, request: Request) -> Result<End, Refusal>
     ensures completed { Completed (C.Cells.meaning card.old) request
         result (C.Cells.meaning card.new) }

@@ -1,4 +1,6 @@
 // The two bottom cards at their ends, and calls out of order.
+ghost use Rattle.std.specs.Prelude.{◌≡◌, false};
+
 use super::common::{equal, fault, shows};
 use card::{
     BootCard, Card, Cause, Cell, Cells, Direction, End, Origin, Request, Transfer, WordCard,
@@ -123,4 +125,42 @@ fn out_of_order<C: Card>(rt: &impl Abort, card: &mut C, placed: bool) -> Result<
 fn calls_out_of_order(rt: HostRuntime) -> Result<(), Fail> {
     out_of_order(&rt, &mut WordCard::new(&mut [5]), true)?;
     out_of_order(&rt, &mut BootCard::new(&[5]), false)
+}
+
+// Whether the poll of a card over lent words answers that it waits, whatever was asked of the card before: never.
+fn word_card_waits(card: &mut WordCard<'_>) -> bool
+    ensures { result ≡ false }
+{
+    match card.poll() {
+        Ok(None) => true,
+        Ok(Some(_)) | Err(_) => false,
+    }
+}
+
+fn boot_card_waits(card: &mut BootCard<'_>) -> bool
+    ensures { result ≡ false }
+{
+    match card.poll() {
+        Ok(None) => true,
+        Ok(Some(_)) | Err(_) => false,
+    }
+}
+
+#[test]
+fn no_poll_of_lent_words_waits(rt: HostRuntime) -> Result<(), Fail> {
+    let read = Request {
+        direction: Direction::Read,
+        address: 0,
+    };
+    let mut words = [7];
+    let mut card = WordCard::new(&mut words);
+    equal(&rt, word_card_waits(&mut card), false);
+    card.begin(read)?;
+    equal(&rt, word_card_waits(&mut card), false);
+    equal(&rt, card.transfer(), None);
+    let mut card = BootCard::new(&words);
+    card.begin(read)?;
+    equal(&rt, boot_card_waits(&mut card), false);
+    equal(&rt, card.transfer(), None);
+    Ok(())
 }

@@ -1,5 +1,5 @@
 // Faults at every stage, and what they leave; a store into the instruction that comes next.
-use super::common::{equal, run};
+use super::common::equal;
 use card::{BootCard, Cause, Origin, WordCard};
 use isa::Flags;
 use machine::{Axis, Fault, Machine, Outcome, Stage};
@@ -89,10 +89,11 @@ fn numbers(rt: HostRuntime) {
 fn store_to_a_boot_card(rt: HostRuntime) -> Result<(), Fail> {
     let words = [0x1001_0007, 0x3101_0000];
     let mut card = BootCard::new(&words);
-    let mut axis = run(&rt, &mut card, 1)?;
+    let mut axis = Machine::power_up(3, &mut card)?;
+    equal(&rt, axis.instruction(&mut card), Ok(Outcome::Done));
     equal(&rt, axis.instruction(&mut card), Ok(Outcome::Halted));
     let fault = Fault {
-        axis: Axis::One,
+        axis: Axis::Three,
         stage: Stage::Store,
         instruction: 1,
         access: 0,
@@ -110,7 +111,11 @@ fn store_to_a_boot_card(rt: HostRuntime) -> Result<(), Fail> {
 #[test]
 fn self_modifying_store(rt: HostRuntime) -> Result<(), Fail> {
     let mut words = [0x3001_0003, 0x3101_0002, 0xff00_0000, 0x1005_0509];
-    let axis = run(&rt, &mut WordCard::new(&mut words), 3)?;
+    let mut card = WordCard::new(&mut words);
+    let mut axis = Machine::power_up(1, &mut card)?;
+    for _ in 0..3 {
+        equal(&rt, axis.instruction(&mut card), Ok(Outcome::Done));
+    }
     equal(&rt, (axis.pc(), axis.register(5)), (3, 9));
     Ok(())
 }
