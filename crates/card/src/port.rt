@@ -39,7 +39,6 @@ impl Port {
 
     // Takes one wait off the transfer and answers none, or ends it and answers the request, which the card carries out then;
     // refused without a transfer.
-    #[inline(always)]
     pub fn poll(&mut self) -> Result<Option<Request>, Refusal>
         ensures answer { result ≡ poll_answer self.old.transfer }
         ensures transfer { self.new.transfer ≡ after_poll self.old.transfer }
