@@ -19,14 +19,18 @@ impl<'t> Line<'t> {
     // The card that the line puts in.
     pub fn card(&self) -> Option<NewCard> {
         match self.command {
-            Ok(Command::Card(bottom, count)) => Some((bottom, count)),
+            Ok(Command::Card(bottom, words)) => Some(NewCard { bottom, words }),
             _ => None,
         }
     }
 }
 
-// A bottom card, and how many words it has.
-pub type NewCard = (Bottom, u32);
+// The bottom card of a scenario, and how many words it has.
+#[derive(Clone, Copy)]
+pub struct NewCard {
+    pub bottom: Bottom,
+    pub words: u32,
+}
 
 // The text of each file; None, and a line that says which, if one cannot be read.
 pub fn gather(rt: &HostRuntime) -> io::Result<Option<Vec<Vec<u8>>>> {
@@ -70,6 +74,10 @@ impl<'t> Lines<'t> {
     pub fn next(&mut self) -> Option<Line<'t>> {
         for _ in 0..u64::MAX {
             let (number, text) = self.next_text()?;
+            // an empty line costs no call
+            if text.is_empty() {
+                continue;
+            }
             if let Some(command) = command::read(text).transpose() {
                 return Some(Line { number, command });
             }
@@ -77,13 +85,17 @@ impl<'t> Lines<'t> {
         None
     }
 
-    // The next line of all, which lacks its end, by its number in its file.
+    // The next line's number in its file, and its text without the line end.
     fn next_text(&mut self) -> Option<(u64, &'t [u8])> {
         if self.text.is_empty() {
             self.text = self.files.find(|file| !file.is_empty())?.as_slice();
             self.number = 0;
         }
-        let end = memchr(b'\n', self.text).unwrap_or(self.text.len());
+        let end = if self.text.starts_with(b"\n") {
+            0
+        } else {
+            memchr(b'\n', self.text).unwrap_or(self.text.len())
+        };
         let (text, rest) = self.text.split_at(end);
         self.text = rest.get(1..).unwrap_or(&[]);
         self.number = self.number.saturating_add(1);

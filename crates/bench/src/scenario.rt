@@ -13,10 +13,10 @@ use std::io;
 pub fn play(rt: &HostRuntime, report: &mut Report<'_>, lines: &mut Lines<'_>) -> io::Result<()> {
     let mut next = without_card(report, lines)?;
     for _ in 0..u64::MAX {
-        let Some((bottom, count)) = next else {
+        let Some(card) = next else {
             break;
         };
-        let memory = Memory::new(rt.alloc(), bottom, count)?;
+        let memory = Memory::new(rt.alloc(), card.bottom, card.words)?;
         println!(rt; "card ok")?;
         next = on_card(rt, report, memory, lines)?;
     }
@@ -82,10 +82,12 @@ fn set_up(
         let Some(line) = lines.next() else {
             break;
         };
-        match line.command {
-            Ok(Command::Card(bottom, count)) => return Ok(SetUp::Over(Some((bottom, count)))),
-            Ok(Command::Power(kind, axis)) => return Ok(SetUp::Power(PowerUp { kind, axis })),
-            _ => {}
+        let card = line.card();
+        if card.is_some() {
+            return Ok(SetUp::Over(card));
+        }
+        if let Ok(Command::Power(kind, axis)) = line.command {
+            return Ok(SetUp::Power(PowerUp { kind, axis }));
         }
         if let Err(mistake) = carry_out(rt, memory, &line) {
             report.mistake(line.number, mistake)?;

@@ -9,7 +9,7 @@ use card::Card;
 use command::Command;
 use std::io;
 
-// All lines after a power-up are one task on one stack, since a transfer can last from a line to the next.
+// A power-up and all lines after it are one task on one stack, since a transfer can last from a line to the next.
 #[derive(Drop)]
 pub struct Session<'l, 't, 'r, 'a> {
     pub power_up: PowerUp,
@@ -20,7 +20,7 @@ pub struct Session<'l, 't, 'r, 'a> {
 // How a session ended.
 #[derive(Drop)]
 pub enum SessionEnd {
-    // the power-up was refused, so that there was none
+    // the power-up was refused, so that there was no session
     Refused,
     // the scenario is over, at the card of the next one if there is one
     Over(Option<NewCard>),

@@ -30,17 +30,17 @@ all_within r [] some e = absurd (omega arith)
 all_within r (x ∷ xs) some e = sym (cond-true _ _ _ e)
 
 -- the first i bytes are digits, and n their number
-pub record Sofar (r : ℕ) (xs : List ℕ) (i n : ℕ) : Type 0 where
+pub record SoFar (r : ℕ) (xs : List ℕ) (i n : ℕ) : Type 0 where
   pub digits : all_digits r xs ≡ all_digits r (drop i xs)
   pub sum : n ≡ capped (digits_value r (take i xs))
 
-module _ {r : ℕ} {xs : List ℕ} {i n : ℕ} (so : Sofar r xs i n) where
+module _ {r : ℕ} {xs : List ℕ} {i n : ℕ} (so : SoFar r xs i n) where
   pub no_digit : i < length xs → r ≤ digit_value (get_or xs i 0) → Err NotANumber ≡ number_in_base r xs
   no_digit h high =
       not_all r xs (so.digits ∙ at_drop_more (all_digits r) xs i 0 h ∙ and_left _ _ (le-ltb _ _ high))
 
   pub one_more : (d m : ℕ) → i < length xs → 2 ≤ r → digit_value (get_or xs i 0) < r
-      → d ≡ digit_value (get_or xs i 0) → m ≡ capped (n * r + d) → Sofar r xs (i + 1) m
+      → d ≡ digit_value (get_or xs i 0) → m ≡ capped (n * r + d) → SoFar r xs (i + 1) m
   one_more d m h two low digit total =
       let v = digits_value r (take i xs) in
       let b = digit_value (get_or xs i 0) in
@@ -53,7 +53,7 @@ module _ {r : ℕ} {xs : List ℕ} {i n : ℕ} (so : Sofar r xs i n) where
             ∙ digit_more v r b two ∙ ap capped (sym (digits_value_more r xs i h));
       }
 
-module _ {r : ℕ} {xs : List ℕ} {i n : ℕ} (so : Sofar r xs i n) (h : length xs ≤ i) (some : 0 < length xs) where
+module _ {r : ℕ} {xs : List ℕ} {i n : ℕ} (so : SoFar r xs i n) (h : length xs ≤ i) (some : 0 < length xs) where
   whole : n ≡ capped (digits_value r xs)
   whole = so.sum ∙ ap (λ s. capped (digits_value r s)) (take_all i xs h)
 

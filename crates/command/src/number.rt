@@ -7,7 +7,7 @@ ghost use Rattle.command.specs.Numbers.{number_of, number_in_base};
 use crate::Wrong;
 
 // The value of each byte as a digit, 36 where it is none: a table, since a branch on random digits is often guessed wrong.
-const VALUES: [u8; 256] = [
+const DIGIT_VALUES: [u8; 256] = [
     36, 36, 36, 36, 36, 36, 36, 36, 36, 36, 36, 36, 36, 36, 36, 36, 36, 36, 36, 36, 36, 36, 36, 36,
     36, 36, 36, 36, 36, 36, 36, 36, 36, 36, 36, 36, 36, 36, 36, 36, 36, 36, 36, 36, 36, 36, 36, 36,
     0, 1, 2, 3, 4, 5, 6, 7, 8, 9, 36, 36, 36, 36, 36, 36, 36, 10, 11, 12, 13, 14, 15, 16, 17, 18,
@@ -21,17 +21,17 @@ const VALUES: [u8; 256] = [
     36, 36, 36, 36, 36, 36, 36, 36, 36, 36, 36, 36, 36, 36,
 ];
 
-fn values() -> &'static [u8; 256]
+fn digit_values() -> &'static [u8; 256]
     ensures { result.now ≡ map digit_value (range_with_len 0 256) }
 {
-    &VALUES
+    &DIGIT_VALUES
 }
 
 // The value that a byte has as a digit; 36 where it has none.
-fn value(byte: u8) -> u32
+fn digit(byte: u8) -> u32
     ensures { result ≡ digit_value byte }
 {
-    u32::from(values()[usize::from(byte)])
+    u32::from(digit_values()[usize::from(byte)])
 }
 
 // The first number past a `u32`.
@@ -47,7 +47,7 @@ fn in_base(word: &[u8], radix: u32) -> Result<u32, Wrong>
     }
     let mut n = 0u64;
     for b in word {
-        let digit = value(*b);
+        let digit = digit(*b);
         if digit >= radix {
             return Err(Wrong::NotANumber);
         }

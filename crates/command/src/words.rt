@@ -133,6 +133,7 @@ impl Iterator for Numbers<'_> {
 
     ghost remaining = { item_count (λ numbers. numbers) };
 
+    // Inlined into the loop that stores the numbers, of which it is most.
     #[inline(always)]
     fn next(&mut self) -> Option<u32> {
         self.count = self.count.saturating_sub(1);

@@ -3,7 +3,8 @@ ghost use Rattle.std.specs.Prelude.{◌≡◌, false};
 
 use super::common::{equal, fault, shows};
 use card::{
-    BootCard, Card, Cause, Cell, Cells, Direction, End, Origin, Request, Transfer, WordCard,
+    BootCard, BottomCard, Card, Cause, Cell, Cells, Direction, End, Memory, Origin, Request,
+    Transfer, WordCard,
 };
 use refusal::Refusal;
 use std::process::Abort;
@@ -128,16 +129,7 @@ fn calls_out_of_order(rt: HostRuntime) -> Result<(), Fail> {
 }
 
 // Whether the poll of a card over lent words answers that it waits, whatever was asked of the card before: never.
-fn word_card_waits(card: &mut WordCard<'_>) -> bool
-    ensures { result ≡ false }
-{
-    match card.poll() {
-        Ok(None) => true,
-        Ok(Some(_)) | Err(_) => false,
-    }
-}
-
-fn boot_card_waits(card: &mut BootCard<'_>) -> bool
+fn lent_words_wait<M: Memory>(card: &mut BottomCard<M>) -> bool
     ensures { result ≡ false }
 {
     match card.poll() {
@@ -154,13 +146,13 @@ fn no_poll_of_lent_words_waits(rt: HostRuntime) -> Result<(), Fail> {
     };
     let mut words = [7];
     let mut card = WordCard::new(&mut words);
-    equal(&rt, word_card_waits(&mut card), false);
+    equal(&rt, lent_words_wait(&mut card), false);
     card.begin(read)?;
-    equal(&rt, word_card_waits(&mut card), false);
+    equal(&rt, lent_words_wait(&mut card), false);
     equal(&rt, card.transfer(), None);
     let mut card = BootCard::new(&words);
     card.begin(read)?;
-    equal(&rt, boot_card_waits(&mut card), false);
+    equal(&rt, lent_words_wait(&mut card), false);
     equal(&rt, card.transfer(), None);
     Ok(())
 }

@@ -4,7 +4,7 @@ use Rattle.command.proofs.number.in_base.Goals as goal
 
 pub loop-b-preserved : goal.loop-b-preserved
 loop-b-preserved c =
-    let digit = c.value-digit.ensures in
+    let digit = c.digit-digit.ensures in
     let below = subst (λ d. d < c.args.radix) digit c.if-digit-radix.false in
     let sum =
     c.min-n.ensures ∙ ap (λ r. capped (c.loop-b.n * r + c.from-in-loop-b.result)) c.from.ensures
