@@ -1,4 +1,6 @@
 // The text of a scenario, from standard input or from the files named as arguments, and its lines.
+ghost use Rattle.std.specs.Prelude.{◌≤◌, length};
+
 use command::{Bottom, Command, Wrong};
 use memchr::memchr;
 use std::io::Read;
@@ -91,14 +93,21 @@ impl<'t> Lines<'t> {
             self.text = self.files.find(|file| !file.is_empty())?.as_slice();
             self.number = 0;
         }
-        let end = if self.text.starts_with(b"\n") {
-            0
-        } else {
-            memchr(b'\n', self.text).unwrap_or(self.text.len())
-        };
+        let end = line_end(self.text);
         let (text, rest) = self.text.split_at(end);
         self.text = rest.get(1..).unwrap_or(&[]);
         self.number = self.number.saturating_add(1);
         Some((self.number, text))
+    }
+}
+
+// How many bytes stand before the first line end. Among the first bytes it is looked for without a call, since most lines are short.
+fn line_end(text: &[u8]) -> usize
+    ensures { result ≤ length text.now }
+{
+    let start = &text[..text.len().min(32)];
+    match start.iter().position(|byte| *byte == b'\n') {
+        Some(end) => end,
+        None => memchr(b'\n', text).unwrap_or(text.len()),
     }
 }

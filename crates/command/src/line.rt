@@ -1,5 +1,7 @@
 // What a line has before its comment.
-ghost use Rattle.std.specs.Prelude.{◌≡◌};
+ghost use Rattle.std.specs.Prelude.{◌≡◌, ◌==◌, length};
+ghost use Rattle.std.specs.List.{position_or_len};
+ghost use Rattle.std.specs.Option.{unwrap_or};
 ghost use Rattle.command.specs.Words.{before_comment, bad, any_bad};
 
 use memchr::memchr;
@@ -8,8 +10,19 @@ use memchr::memchr;
 pub fn before_comment(line: &[u8]) -> &[u8]
     ensures { result.now ≡ before_comment line.now }
 {
-    let end = memchr(b'#', line).unwrap_or(line.len());
+    let end = comment(line).unwrap_or(line.len());
     &line[..end]
+}
+
+// Where the comment begins.
+fn comment(line: &[u8]) -> Option<usize>
+    ensures { unwrap_or result (length line.now) ≡ position_or_len (λ b. b == 35) line.now }
+{
+    // a short line is searched faster than `memchr` is called
+    if line.len() < 32 {
+        return line.iter().position(|b| *b == b'#');
+    }
+    memchr(b'#', line)
 }
 
 // Whether a byte may stand in a comment only.
