@@ -1,12 +1,11 @@
 -- A word of digits, read from the left into a number that stops at the first one past a `u32`.
-use Rattle.std.proofs.Common.{◌≡◌, ℕ, ◌+◌, ◌*◌, ◌^◌, ◌<◌, ◌≤◌, min, true, false, ◌&&◌, List, [], ◌∷◌, length, get_or, take, drop, Ok, Err, sym, refl, ap, ◌∙◌, ⊎_elim, le-mul_of_pos_right, arith}
+use Rattle.std.proofs.Common.{◌≡◌, ℕ, ◌+◌, ◌*◌, ◌^◌, ◌<◌, ◌≤◌, min, ◌&&◌, List, length, get_or, take, drop, sym, refl, ap, ◌∙◌, ⊎_elim, le-mul_of_pos_right, arith}
 use Rattle.std.specs.Str.Parse.{digits_value}
 use Rattle.std.specs.Char.{digit_value}
 use Rattle.std.proofs.lemmas.Int.Digits.{digits_value_more}
-use Rattle.std.proofs.lemmas.List.{at_drop_more, at_drop_all, take_all}
-use Rattle.std.proofs.lemmas.Bool.{cond-true, cond-false, lt-ltb, le-ltb, le-leb, lt-leb, and_left, cases_lt}
-use Rattle.command.specs.Numbers.{all_digits, within, number_in_base}
-use Rattle.command.specs.declared.Wrong.TheVariants.{NotANumber, NumberTooLarge}
+use Rattle.std.proofs.lemmas.List.{at_drop_more}
+use Rattle.std.proofs.lemmas.Bool.{lt-ltb, cases_lt}
+use Rattle.command.specs.Numbers.{all_digits}
 
 abbrev pub capped : ℕ → ℕ
 capped n = min n (2 ^ 32)
@@ -21,24 +20,12 @@ digit_more v r d two =
     rw e (omega (arith, le-mul_of_pos_right {m = r} v (omega arith))))
     (cases_lt v (2 ^ 32))
 
-not_all : (r : ℕ) (xs : List ℕ) → all_digits r xs ≡ false → Err NotANumber ≡ number_in_base r xs
-not_all r [] e = refl
-not_all r (x ∷ xs) e = sym (cond-false _ _ _ e)
-
-all_within : (r : ℕ) (xs : List ℕ) → 0 < length xs → all_digits r xs ≡ true → within (digits_value r xs) ≡ number_in_base r xs
-all_within r [] some e = absurd (omega arith)
-all_within r (x ∷ xs) some e = sym (cond-true _ _ _ e)
-
 -- the first i bytes are digits, and n their number
 pub record SoFar (r : ℕ) (xs : List ℕ) (i n : ℕ) : Type 0 where
   pub digits : all_digits r xs ≡ all_digits r (drop i xs)
   pub sum : n ≡ capped (digits_value r (take i xs))
 
 module _ {r : ℕ} {xs : List ℕ} {i n : ℕ} (so : SoFar r xs i n) where
-  pub no_digit : i < length xs → r ≤ digit_value (get_or xs i 0) → Err NotANumber ≡ number_in_base r xs
-  no_digit h high =
-      not_all r xs (so.digits ∙ at_drop_more (all_digits r) xs i 0 h ∙ and_left _ _ (le-ltb _ _ high))
-
   pub one_more : (d m : ℕ) → i < length xs → 2 ≤ r → digit_value (get_or xs i 0) < r
       → d ≡ digit_value (get_or xs i 0) → m ≡ capped (n * r + d) → SoFar r xs (i + 1) m
   one_more d m h two low digit total =
@@ -52,20 +39,3 @@ module _ {r : ℕ} {xs : List ℕ} {i n : ℕ} (so : SoFar r xs i n) where
             total ∙ ap (λ k. capped (n * r + k)) digit ∙ ap (λ a. capped (a * r + b)) so.sum
             ∙ digit_more v r b two ∙ ap capped (sym (digits_value_more r xs i h));
       }
-
-module _ {r : ℕ} {xs : List ℕ} {i n : ℕ} (so : SoFar r xs i n) (h : length xs ≤ i) (some : 0 < length xs) where
-  whole : n ≡ capped (digits_value r xs)
-  whole = so.sum ∙ ap (λ s. capped (digits_value r s)) (take_all i xs h)
-
-  number_within : within (digits_value r xs) ≡ number_in_base r xs
-  number_within = all_within r xs some (so.digits ∙ at_drop_all (all_digits r) xs i h)
-
-  pub fits : n < 2 ^ 32 → Ok n ≡ number_in_base r xs
-  fits low =
-      let w = whole in
-      let e : n ≡ digits_value r xs = omega arith in
-      ap Ok e ∙ sym (cond-true _ _ _ (le-leb (digits_value r xs) 4294967295 (omega arith))) ∙ number_within
-
-  pub too_large : 2 ^ 32 ≤ n → Err NumberTooLarge ≡ number_in_base r xs
-  too_large high =
-      let w = whole in sym (cond-false _ _ _ (lt-leb (digits_value r xs) 4294967295 (omega arith))) ∙ number_within
