@@ -32,8 +32,7 @@ pub fn run_instructions<C: Card>(
 }
 
 // Up to so many instructions, to the first that halts or is refused: how many were accepted, and the last answer. The count of
-// the turns is the count of the answer. It and `clocks` are compiled apart: inlined into one function they slow one another.
-#[inline(never)]
+// the turns is the count of the answer.
 fn instructions<C: Card>(
     machine: &mut Machine,
     card: &mut C,
@@ -70,7 +69,6 @@ pub fn run_clocks<C: Card>(
 }
 
 // As `instructions`. Where no clock is asked for, the answer is that of a boundary.
-#[inline(never)]
 fn clocks<C: Card>(
     serviced: &mut Serviced,
     card: &mut C,
